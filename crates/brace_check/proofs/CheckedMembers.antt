@@ -244,8 +244,6 @@ given_names gifts = map (λ g. g.state) gifts
 module _ (n : Scope) (m : Names) (tied : Tied n m) (hd : Heading) (states : List State)
     (there : slice_get (declared m) m.own ≡ Some hd) (kept : map state_heading states ≡ hd.states) where
   gift_to : (g : GiftTree) (o : Option Field) → look n.home.own g.state.text ≡ o → TargetIs m o → gives g.state.at o ++ valued (given_type o) g.value n ≡ [] → GiftOk n m states g
-  gift_to g None is known clean = absurd (cc)
-  gift_to g (Some (field.Effect i t shared c)) is known clean = absurd (cc)
   gift_to g (Some (field.State i t shared)) is known clean =
       let at : slice_get hd.states i ≡ Some (record { ty = t; shared = shared }) = sym (ap (λ (o : Option Heading). option_and_then (λ h. slice_get h.states i) o) there) ∙ known in
       let st : StateThere states i t = state_there states i (record { ty = t; shared = shared }) (slice_get states i) refl
@@ -260,6 +258,7 @@ module _ (n : Scope) (m : Names) (tied : Tied n m) (hd : Heading) (states : List
             let found : slice_get states (number_given n g) ≡ Some st.state = ap (λ (o : Option Field). slice_get states (number_of o)) is ∙ st.is in
             rw found (ap (is_of_type st.state.ty) typed ∙ (ap (λ (u : Ty). is_of_type u (Some t)) st.typed ∙ same-self t));
       }
+  gift_to g _ is known clean = absurd (cc)
 
   gift_ok : (g : GiftTree) → checks.gift n g ≡ [] → GiftOk n m states g
   gift_ok g clean = gift_to g (look n.home.own g.state.text) refl (target_is n m tied g.state.text) clean

@@ -395,13 +395,9 @@ module _ (src : List ℕ) where
   worded_field shared at _ _ (r.effect word type name colon combinator semicolon t c _ _ is _ _ _) h = h.1.1.0 is
 
   worded_member : (toks : List Token) (x : MemberTree) → ReadsMember src toks x → Words toks → Worded x
-  worded_member _ _ (r.visible word opening range closing semicolon n _ _ _ _ _) h = tt
-  worded_member _ _ (r.reach word opening range closing semicolon n _ _ _ _ _) h = tt
   worded_member _ _ (r.public a word x _ g) h = worded_field true word.from a x g h.1
   worded_member _ _ (r.private a word x _ g) h = worded_field false word.from a x g h.1
-  worded_member _ _ (r.run a word void run opening closing xs _ _ _ _ _ _) h = tt
-  worded_member _ _ (r.die a word when semicolon x _ _ _ _) h = tt
-  worded_member _ _ (r.spawn a b word when opening closing x gs _ _ _ _ _ _) h = tt
+  worded_member _ _ _ h = tt
 
   worded_members : (toks : List Token) (xs : List MemberTree) → ReadsMembers src toks xs → Words toks → AllByRecursion Worded xs
   worded_members _ _ r.none h = tt

@@ -466,19 +466,15 @@ module _ (src : List ℕ) where
 
   at_field : (home : Home) (shared : Bool) (at : ℕ) (toks : List Token) (x : MemberTree) (n : List ℕ) → ReadsField src shared at toks x → Sub (query_loops (member_queries home x n)) toks
   at_field home shared at toks _ n (r.state word type name semicolon t _ _ _ _) = nowhere toks
-  at_field home shared at toks _ n (r.ruled a word type name colon semicolon t x _ _ _ _ _ _) = nowhere toks
-  at_field home shared at toks _ n (r.effect word type name colon combinator semicolon t c _ _ _ _ _ _) = nowhere toks
+  at_field home shared at toks _ n _ = nowhere toks
 
   at_member : (home : Home) (toks : List Token) (x : MemberTree) (n : List ℕ) → ReadsMember src toks x → Sub (query_loops (member_queries home x n)) toks
-  at_member home toks _ n (r.visible word opening range closing semicolon k _ _ _ _ _) = nowhere toks
-  at_member home toks _ n (r.reach word opening range closing semicolon k _ _ _ _ _) = nowhere toks
   at_member home toks _ n (r.public a word x _ h) = skip word _ a (at_field home true word.from a x n h)
   at_member home toks _ n (r.private a word x _ h) = skip word _ a (at_field home false word.from a x n h)
   at_member home toks _ n (r.run a word void run opening closing xs _ _ _ _ _ h) =
       subst (λ (l : List ℕ). Sub l toks) (sym (append-nil _ ∙ (block_numbers xs).loops_are (outermost home true) n))
       (before (loops_in xs) (word ∷ void ∷ run ∷ opening ∷ closing ∷ []) a (at_block src a xs h))
-  at_member home toks _ n (r.die a word when semicolon x _ _ _ _) = nowhere toks
-  at_member home toks _ n (r.spawn a b word when opening closing x gs _ _ _ _ _ _) = nowhere toks
+  at_member home toks _ n _ = nowhere toks
 
   at_members : (home : Home) (toks : List Token) (xs : List MemberTree) (n : List ℕ) → ReadsMembers src toks xs → Sub (query_loops (shares home xs n).0.queries) toks
   at_members home _ _ n r.none = none

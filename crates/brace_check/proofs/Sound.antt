@@ -272,9 +272,8 @@ module _ (n : Scope) (m : Names) (tied : Tied n m) (x : ExprTree) (k : List ℕ)
 
   -- `n <- x` and `this.n <- x`
   pub said_to_this : (at : ℕ) (o : Option Field) → TargetIs m o → says at o x n ≡ [] → scope_after (stmt.Assign This (number_of o) (expression x n k).0 at) m ≡ Some m
-  said_to_this at None is clean = absurd (cc)
-  said_to_this at (Some (field.State i t shared)) is clean = absurd (cc)
   said_to_this at (Some (field.Effect i t shared c)) is clean = said This m.own i t shared c at refl (own_may m shared) is clean
+  said_to_this at _ is clean = absurd (cc)
 
   -- `q.n <- x`
   to_field : (at : ℕ) (y : LoopField) (f : Field) → y.field ≡ f → LoopIs m (Some y) → crosses n at (Some y) ≡ [] → says at (Some y.field) x n ≡ []

@@ -14,7 +14,7 @@ use Rattle.brace_model.specs.declared.program.Ty.{Ty}
 use Rattle.brace_model.specs.declared.program.Ty.TheVariants as ty
 use Rattle.brace_model.specs.declared.program.Comb.{Comb}
 use Rattle.brace_model.specs.declared.program.Who.{Who}
-use Rattle.brace_model.specs.declared.program.Who.TheVariants.{This, Outer, Inner}
+use Rattle.brace_model.specs.declared.program.Who.TheVariants.{Outer, Inner}
 use Rattle.brace_model.specs.declared.program.State.{State}
 use Rattle.brace_model.specs.declared.program.Effect.{Effect}
 use Rattle.brace_model.specs.declared.program.Class.{Class}
@@ -92,8 +92,7 @@ FieldsFit headings class = AllByRecursion (λ e. FieldIs headings class e.1)
 -- small facts
 pub same-self : (t : Ty) → same_type t t ≡ true
 same-self ty.Int = refl
-same-self ty.Fixed = refl
-same-self ty.Bool = refl
+same-self _ = refl
 
 pub sited : (test : Bool) (n : ℕ) → is_sited test (only test n) ≡ true
 sited true n = refl
@@ -263,9 +262,8 @@ module _ (n : Scope) (m : Names) (tied : Tied n m) where
   own_is name = as_named (look n.home.own name) (target_is name)
 
   local_or : (name : List ℕ) (o : Option Local) → look n.locals name ≡ o → NamedIs m (constant_or o (read_own n name))
-  local_or name None is = own_is name
-  local_or name (Some (local.Loop loops class)) is = own_is name
   local_or name (Some (local.Constant k t)) is = (found_among (bytes_eq name) (LocalIs m n.constants) n.locals (local.Constant k t) tied.locals is).1
+  local_or name _ is = own_is name
 
   -- `n`
   pub read_is : (name : List ℕ) → NamedIs m (read n name)
@@ -279,12 +277,10 @@ module _ (n : Scope) (m : Names) (tied : Tied n m) where
   in_class loops class name (Some own) (Some f) is found agent = (agent, found_among (bytes_eq name) (FieldIs (declared m) class) own f (tied.others class own is) found)
 
   of_local : (name : List ℕ) (variable : List ℕ) (o : Option Local) → look n.locals variable ≡ o → LoopIs m (field_of n name o)
-  of_local name variable None is = tt
-  of_local name variable (Some (local.Constant k t)) is = tt
-  of_local name variable (Some (local.Loop loops None)) is = tt
   of_local name variable (Some (local.Loop loops (Some class))) is =
       in_class loops class name (slice_get n.home.known.fields class) (field_in n class name) refl refl
       (found_among (bytes_eq variable) (LocalIs m n.constants) n.locals (local.Loop loops (Some class)) tied.locals is)
+  of_local name variable _ is = tt
 
   -- `q.n`
   pub of_loop_is : (variable name : List ℕ) → LoopIs m (of_loop n variable name)
@@ -366,9 +362,8 @@ entered m zero number few are = record {
 }
   where
     kept : (who : Who) (class : ℕ) → class_named m who ≡ Some class → class_named (record m { outer_class = Some number }) who ≡ Some class
-    kept This class is = is
     kept Outer class is = let never : None ≡ Some class = sym are.0 ∙ is in absurd (cc)
-    kept Inner class is = is
+    kept _ class is = is
 entered m (suc zero) number few are = record {
   inner = record m { inner_class = Some number };
   is = ap (λ (b : Bool). if b then Some (record m { outer_class = Some number }) else only (is_none m.inner_class) (record m { inner_class = Some number })) are.0
@@ -383,9 +378,8 @@ entered m (suc zero) number few are = record {
 }
   where
     kept : (who : Who) (class : ℕ) → class_named m who ≡ Some class → class_named (record m { inner_class = Some number }) who ≡ Some class
-    kept This class is = is
-    kept Outer class is = is
     kept Inner class is = let never : None ≡ Some class = sym are.1 ∙ is in absurd (cc)
+    kept _ class is = is
 entered m (suc (suc loops)) number few are = absurd (omega (arith, few))
 
 -- in the block of a loop

@@ -106,10 +106,8 @@ quiet_if true xs ys h g = h
 quiet_if false xs ys h g = g
 
 quiet_typed : (type : TyName) → Quiet (f.typed type)
-quiet_typed tyname.Int = quiet_nothing
-quiet_typed tyname.Fixed = quiet_nothing
-quiet_typed tyname.Bool = quiet_nothing
 quiet_typed (tyname.Other name) = quiet_fault _
+quiet_typed _ = quiet_nothing
 
 quiet_declares : (n : Scope) (name : Ident) → Quiet (f.declares n name)
 quiet_declares n name = quiet_if (is_taken n name.text) _ [] (quiet_fault _) quiet_nothing
@@ -138,11 +136,10 @@ told_site false at k = told_quiet [] k quiet_nothing
 
 told_reads : (n : Scope) (at : ℕ) (name : Ident) (o : Option Named) (k : List ℕ) → Told (f.reads n at name o) k (named_as n at o k).1 0
 told_reads n at name None k = told_quiet _ k (quiet_fault _)
-told_reads n at name (Some (named.Constant i t)) k = told_quiet _ k (record { none = refl; still = refl })
-told_reads n at name (Some (named.Field (field.State i t shared))) k = told_quiet _ k (record { none = refl; still = refl })
 told_reads n at name (Some (named.Field (field.Effect i t shared c))) k =
     behind_quiet (f.names_as name.at (f.target_of (field.Effect i t shared c))) (f.site_if (f.is_summed n (field.Effect i t shared c)) at) k _ 0
     (record { none = refl; still = refl }) (told_site (f.is_summed n (field.Effect i t shared c)) at k)
+told_reads n at name _ k = told_quiet _ k (record { none = refl; still = refl })
 
 -- an expression
 abbrev ToldBy : (Scope → List Finding) → (Scope → Meaning Expr) → Type 0
@@ -297,8 +294,6 @@ share_said s = sum_by said s.queries + given s.spawn
 
 module _ (home : Home) where
   member_told : (x : MemberTree) (k : List ℕ) → Told (names.member home x) k (share home x k).1 (share_said (share home x k).0)
-  member_told (m.Visible range at) k = told_quiet [] k quiet_nothing
-  member_told (m.Reach range at) k = told_quiet [] k quiet_nothing
   member_told (m.State shared type name None at) k = told_quiet _ k (quiet_both (f.typed type) [] (quiet_typed type) quiet_nothing)
   member_told (m.State shared type name (Some x) at) k =
       behind_quiet (f.typed type) (names.expression x (outermost home false)) k _ 0 (quiet_typed type) (expression_told x (outermost home false) k)
@@ -320,6 +315,7 @@ module _ (home : Home) where
       (told_both (all ++ again) (f.site at) j i _ (many + 0) 0
       (told_both all again j i i many 0 (gifts_told gifts n j) (told_quiet again i (quiet_faults DuplicateName (repeated (names.states_given n gifts)))))
       (record { sites = refl; said = refl })))
+  member_told _ k = told_quiet [] k quiet_nothing
 
   members_told : (xs : List MemberTree) (k : List ℕ) → Told (flat_map (names.member home) xs) k (shares home xs k).1 (share_said (shares home xs k).0)
   members_told [] k = told_quiet [] k quiet_nothing

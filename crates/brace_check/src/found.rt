@@ -1,7 +1,8 @@
-ghost use Rattle.std.specs.Prelude.{◌≡◌, ◌++◌, map, flat_map, length, OnOk, IfOk};
+ghost use Rattle.std.specs.Prelude.{◌≡◌, ◌++◌, map, flat_map, length, Some, OnOk, IfOk};
 ghost use Rattle.brace_model.specs.declared.program.Ty.TheVariants as ty;
-ghost use Rattle.brace_names.specs.Scopes.{home_of, past};
+ghost use Rattle.brace_names.specs.Scopes.{Home, home_of, outermost, is_query, class_number, inside, past, declaring};
 ghost use Rattle.brace_names.specs.Walk.{behind, block, constants_in, in_classes};
+ghost use Rattle.brace_check.specs.Findings.{nests, loops_over};
 ghost use Rattle.brace_check.specs.Found.{expression, valued, says, says_to_loop, part, rule, gift, member};
 
 use crate::fault::CheckFault;
@@ -14,7 +15,7 @@ use brace_names::{
     Classes, Field, Home, LoopField, Scope, comb_named, field_table, next, type_named,
 };
 use brace_num::{List, NoMemory};
-use brace_syntax::{ClassTree, ExprTree, GiftTree, MemberTree, StmtTree};
+use brace_syntax::{ClassTree, ExprTree, GiftTree, Ident, MemberTree, StmtTree};
 use std::alloc::Global;
 
 // Notes what is found in an expression, but for types.
@@ -55,6 +56,22 @@ fn value(
     fit(out, want, place(x), type_of(scope, x))
 }
 
+// A constant.
+fn constant<'a>(
+    out: &mut Vec<CheckFault>,
+    scope: &mut Scope<'_, '_, 'a>,
+    ty: Ty,
+    name: &'a Ident,
+    x: &ExprTree,
+) -> Result<(), NoMemory>
+    ensures found { OnOk result (out.new.items ≡ out.old.items
+        ++ valued (Some ty) x.now scope.old) }
+    ensures behind { OnOk result (scope.new ≡ past 1 (declaring name.now ty scope.old)) }
+{
+    value(out, scope, Some(ty), x)?;
+    scope.declare(name, ty)
+}
+
 #[cycle(statements)]
 fn statement<'a>(
     out: &mut Vec<CheckFault>,
@@ -65,10 +82,7 @@ fn statement<'a>(
     ensures behind { OnOk result (scope.new ≡ behind (part s.now) scope.old) }
 {
     match s {
-        StmtTree::Const(ty, name, x, _) => {
-            value(out, scope, Some(type_named(ty)), x)?;
-            scope.declare(name, type_named(ty))
-        }
+        StmtTree::Const(ty, name, x, _) => constant(out, scope, type_named(ty), name, x),
         StmtTree::If(condition, statements, other, _) => {
             value(out, scope, Some(Ty::Bool), condition)?;
             block(out, scope, statements)?;
@@ -78,14 +92,7 @@ fn statement<'a>(
             }
         }
         StmtTree::Foreach(class, variable, _, statements, at) => {
-            let loops = scope.loops();
-            let names = scope.len();
-            nest(out, scope, *at)?;
-            loop_over(out, class.at, scope.class_number(class.text.as_bytes()))?;
-            scope.enter(class, variable)?;
-            block(out, scope, statements)?;
-            scope.leave(loops, names);
-            Ok(())
+            each(out, scope, class, variable, statements, *at)
         }
         StmtTree::Assign(name, x) => {
             said(out, scope, name.at, scope.field(name.text.as_bytes()), x)
@@ -98,6 +105,32 @@ fn statement<'a>(
             said_to_loop(out, scope, variable.at, found, x)
         }
     }
+}
+
+// A loop at an offset.
+#[cycle(statements)]
+fn each<'a>(
+    out: &mut Vec<CheckFault>,
+    scope: &mut Scope<'_, '_, 'a>,
+    class: &Ident,
+    variable: &'a Ident,
+    statements: &'a List<StmtTree>,
+    at: u32,
+) -> Result<(), NoMemory>
+    ensures found { OnOk result (out.new.items ≡ out.old.items
+        ++ (nests scope.old at ++ loops_over class.now.at (class_number scope.old class.now.text))
+        ++ block (map part statements.now) (inside class.now variable.now scope.old)) }
+    ensures behind { OnOk result (scope.new
+        ≡ past (constants_in (map part statements.now)) scope.old) }
+{
+    let loops = scope.loops();
+    let names = scope.len();
+    nest(out, scope, at)?;
+    loop_over(out, class.at, scope.class_number(class.text.as_bytes()))?;
+    scope.enter(class, variable)?;
+    block(out, scope, statements)?;
+    scope.leave(loops, names);
+    Ok(())
 }
 
 // A value is said to a field, in an assignment at an offset.
@@ -182,6 +215,30 @@ fn gifts(out: &mut Vec<CheckFault>, scope: &Scope, given: &List<GiftTree>) -> Re
     Ok(())
 }
 
+// Notes what is found in a member, in the scope outside its blocks.
+fn member_in<'a>(
+    out: &mut Vec<CheckFault>,
+    scope: &mut Scope<'_, '_, 'a>,
+    one: &'a MemberTree,
+) -> Result<(), NoMemory>
+    ensures { OnOk result ((home : Home) → scope.old ≡ outermost home (is_query one.now)
+        → out.new.items ≡ out.old.items ++ member home one.now) }
+{
+    match one {
+        MemberTree::Visible(number, _) | MemberTree::Reach(number, _) => range(out, number),
+        MemberTree::Effect(_, ty, name, comb, _) => {
+            join(out, comb_named(*comb), type_named(ty), name.at)
+        }
+        MemberTree::Run(statements, _) => block(out, scope, statements),
+        MemberTree::State(_, ty, _, x, _) => rule(out, scope, type_named(ty), x),
+        MemberTree::Die(condition, _) => value(out, scope, Some(Ty::Bool), condition),
+        MemberTree::Spawn(condition, given, _) => {
+            value(out, scope, Some(Ty::Bool), condition)?;
+            gifts(out, scope, given)
+        }
+    }
+}
+
 fn member<'a>(
     alloc: Global,
     out: &mut Vec<CheckFault>,
@@ -190,33 +247,23 @@ fn member<'a>(
 ) -> Result<(), NoMemory>
     ensures { OnOk result (out.new.items ≡ out.old.items ++ member home.now one.now) }
 {
-    match one {
-        MemberTree::Visible(number, _) | MemberTree::Reach(number, _) => range(out, number),
-        MemberTree::Effect(_, ty, name, comb, _) => {
-            join(out, comb_named(*comb), type_named(ty), name.at)
-        }
-        MemberTree::Run(statements, _) => {
-            let mut scope = Scope::outermost(alloc, home, true);
-            block(out, &mut scope, statements)
-        }
-        MemberTree::State(_, ty, _, x, _) => {
-            rule(
-                out,
-                &Scope::outermost(alloc, home, false),
-                type_named(ty),
-                x,
-            )
-        }
-        MemberTree::Die(condition, _) => {
-            let scope = Scope::outermost(alloc, home, false);
-            value(out, &scope, Some(Ty::Bool), condition)
-        }
-        MemberTree::Spawn(condition, given, _) => {
-            let scope = Scope::outermost(alloc, home, false);
-            value(out, &scope, Some(Ty::Bool), condition)?;
-            gifts(out, &scope, given)
-        }
+    let mut scope = Scope::of(alloc, home, one);
+    member_in(out, &mut scope, one)
+}
+
+fn each_member<'a>(
+    alloc: Global,
+    out: &mut Vec<CheckFault>,
+    home: &Home<'_, 'a>,
+    members: &'a [MemberTree],
+) -> Result<(), NoMemory>
+    ensures { OnOk result (out.new.items ≡ out.old.items
+        ++ flat_map (member home.now) members.now) }
+{
+    for one in members {
+        member(alloc, out, home, one)?;
     }
+    Ok(())
 }
 
 // Notes what is found in the class of a number.
@@ -236,8 +283,23 @@ fn class<'a>(
         number,
         own: &own,
     };
-    for m in one.members.as_slice() {
-        member(alloc, out, &home, m)?;
+    each_member(alloc, out, &home, one.members.as_slice())
+}
+
+// Notes what is found in classes.
+fn in_classes<'a>(
+    alloc: Global,
+    out: &mut Vec<CheckFault>,
+    known: &Classes<'a>,
+    classes: &'a [ClassTree],
+) -> Result<(), NoMemory>
+    ensures { OnOk result (out.new.items ≡ out.old.items
+        ++ in_classes member known.now 0 classes.now) }
+{
+    let mut number = 0;
+    for one in classes {
+        class(alloc, out, known, number, one)?;
+        number = next(number)?;
     }
     Ok(())
 }
@@ -251,10 +313,6 @@ pub fn found<'a>(
     ensures { IfOk result (λ all. all.items ≡ in_classes member known.now 0 classes.now) }
 {
     let mut out = Vec::new(alloc);
-    let mut number = 0;
-    for one in classes {
-        class(alloc, &mut out, known, number, one)?;
-        number = next(number)?;
-    }
+    in_classes(alloc, &mut out, known, classes)?;
     Ok(out)
 }

@@ -80,18 +80,37 @@ fn class_with(alloc: Global, class: &ClassTree, all: Share) -> Result<Class, NoM
     let members = class.members.as_slice();
     let x = place_of(b"x", all.states.as_slice())?;
     let y = place_of(b"y", all.states.as_slice())?;
+    let visible = visible(members)?;
+    let reach = reach(members)?;
+    let effects = effects(alloc, members)?;
+    let name = class.name.text.copy(alloc)?;
     Ok(Class {
-        name: class.name.text.copy(alloc)?,
-        visible: visible(members)?,
-        reach: reach(members)?,
+        name,
+        visible,
+        reach,
         x,
         y,
         states: all.states,
-        effects: effects(alloc, members)?,
+        effects,
         query: first(all.queries).unwrap_or(List::new(alloc)),
         die: first(all.die),
         spawn: first(all.spawn),
     })
+}
+
+// A class in its home. Its sites are noted in finishing order.
+fn class_in<'a>(
+    alloc: Global,
+    sites: &mut Vec<u32>,
+    home: &Home<'_, 'a>,
+    class: &'a ClassTree,
+) -> Result<Class, NoMemory>
+    ensures noted { OnOk result (sites.new.items
+        ≡ (class_of home.now class.now sites.old.items).1) }
+    ensures meant { IfOk result (λ c. c ≡ (class_of home.now class.now sites.old.items).0) }
+{
+    let all = shares(alloc, sites, home, class)?;
+    class_with(alloc, class, all)
 }
 
 // The class of a number. Its sites are noted in finishing order.
@@ -113,8 +132,7 @@ fn class_of<'a>(
         number,
         own: &own,
     };
-    let all = shares(alloc, sites, &home, class)?;
-    class_with(alloc, class, all)
+    class_in(alloc, sites, &home, class)
 }
 
 // The classes of a script. Their sites are noted in finishing order.

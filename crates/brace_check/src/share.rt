@@ -1,4 +1,5 @@
 ghost use Rattle.std.specs.Prelude.{◌≡◌, map, OnOk, IfOk};
+ghost use Rattle.brace_names.specs.Scopes.{Home, outermost, is_query};
 ghost use Rattle.brace_check.specs.Programs.{rule, gifts_in, spawn_of, no_share, share, shared_by, shares};
 
 use crate::meaning::{expression, number_of, site};
@@ -75,6 +76,46 @@ fn spawn(
     Ok(Spawn { when, gifts, site })
 }
 
+// Adds what a member of a class has, in the scope outside its blocks.
+fn add_in<'a>(
+    alloc: Global,
+    sites: &mut Vec<u32>,
+    all: &mut Share,
+    scope: &mut Scope<'_, '_, 'a>,
+    one: &'a MemberTree,
+) -> Result<(), NoMemory>
+    ensures noted { OnOk result ((home : Home) → scope.old ≡ outermost home (is_query one.now)
+        → sites.new.items ≡ (share home one.now sites.old.items).1) }
+    ensures meant { OnOk result ((home : Home) → scope.old ≡ outermost home (is_query one.now)
+        → all.new ≡ shared_by all.old ((share home one.now sites.old.items).0)) }
+{
+    match one {
+        MemberTree::State(shared, ty, name, x, _) => {
+            let rule = rule(alloc, sites, scope, x)?;
+            all.states.push(State {
+                name: name.text.copy(alloc)?,
+                ty: type_named(ty),
+                shared: *shared,
+                rule,
+            })
+        }
+        MemberTree::Run(statements, _) => {
+            let query = block(alloc, sites, scope, statements)?;
+            all.queries.push(query)
+        }
+        MemberTree::Die(condition, _) => {
+            let condition = expression(alloc, sites, scope, condition)?;
+            all.die.push(condition)
+        }
+        MemberTree::Spawn(condition, given, at) => {
+            let spawn = spawn(alloc, sites, scope, condition, given, *at)?;
+            all.spawn.push(spawn)
+        }
+        MemberTree::Visible(_, _) | MemberTree::Reach(_, _) => Ok(()),
+        MemberTree::Effect(_, _, _, _, _) => Ok(()),
+    }
+}
+
 // Adds what a member of a class has.
 fn add<'a>(
     alloc: Global,
@@ -89,35 +130,27 @@ fn add<'a>(
         ≡ shared_by all.old
         ((share home.now one.now sites.old.items).0)) }
 {
-    match one {
-        MemberTree::State(shared, ty, name, x, _) => {
-            let scope = Scope::outermost(alloc, home, false);
-            let rule = rule(alloc, sites, &scope, x)?;
-            all.states.push(State {
-                name: name.text.copy(alloc)?,
-                ty: type_named(ty),
-                shared: *shared,
-                rule,
-            })
-        }
-        MemberTree::Run(statements, _) => {
-            let mut scope = Scope::outermost(alloc, home, true);
-            let query = block(alloc, sites, &mut scope, statements)?;
-            all.queries.push(query)
-        }
-        MemberTree::Die(condition, _) => {
-            let scope = Scope::outermost(alloc, home, false);
-            let condition = expression(alloc, sites, &scope, condition)?;
-            all.die.push(condition)
-        }
-        MemberTree::Spawn(condition, given, at) => {
-            let scope = Scope::outermost(alloc, home, false);
-            let spawn = spawn(alloc, sites, &scope, condition, given, *at)?;
-            all.spawn.push(spawn)
-        }
-        MemberTree::Visible(_, _) | MemberTree::Reach(_, _) => Ok(()),
-        MemberTree::Effect(_, _, _, _, _) => Ok(()),
+    let mut scope = Scope::of(alloc, home, one);
+    add_in(alloc, sites, all, &mut scope, one)
+}
+
+// Adds what members of a class have.
+fn add_all<'a>(
+    alloc: Global,
+    sites: &mut Vec<u32>,
+    all: &mut Share,
+    home: &Home<'_, 'a>,
+    members: &'a [MemberTree],
+) -> Result<(), NoMemory>
+    ensures noted { OnOk result (sites.new.items
+        ≡ (shares home.now members.now sites.old.items).1) }
+    ensures meant { OnOk result (all.new
+        ≡ shared_by all.old ((shares home.now members.now sites.old.items).0)) }
+{
+    for one in members {
+        add(alloc, sites, all, home, one)?;
     }
+    Ok(())
 }
 
 /// What the members of a class have together. Their sites are noted in finishing order.
@@ -138,8 +171,6 @@ pub fn shares<'a>(
         die: List::new(alloc),
         spawn: List::new(alloc),
     };
-    for one in class.members.as_slice() {
-        add(alloc, sites, &mut all, home, one)?;
-    }
+    add_all(alloc, sites, &mut all, home, class.members.as_slice())?;
     Ok(all)
 }

@@ -1,11 +1,12 @@
 ghost use Rattle.std.specs.Prelude.{◌≡◌, map, unwrap_or, OnOk, IfOk};
+ghost use Rattle.brace_model.specs.declared.program.Stmt.TheVariants as stmt;
 ghost use Rattle.brace_names.specs.Tables.{look};
-ghost use Rattle.brace_names.specs.Scopes.{past};
+ghost use Rattle.brace_names.specs.Scopes.{inside, past, declaring};
 ghost use Rattle.brace_names.specs.Walk.{behind, constants_in};
 ghost use Rattle.brace_check.specs.Meanings.{assigned, number_in, said, said_to_loop, expression, part, block};
 
 use crate::meaning::{agent_of, expression, loop_number, number_of};
-use brace_model::{Stmt, Who};
+use brace_model::{Stmt, Ty, Who};
 use brace_names::{LoopField, Scope, type_named};
 use brace_num::{List, NoMemory};
 use brace_syntax::{ExprTree, Ident, StmtTree};
@@ -80,6 +81,27 @@ fn number_in(scope: &Scope, class: &Ident) -> u32
     scope.class_number(class.text.as_bytes()).unwrap_or(0)
 }
 
+// A constant.
+fn constant<'a>(
+    alloc: Global,
+    sites: &mut Vec<u32>,
+    scope: &mut Scope<'_, '_, 'a>,
+    ty: Ty,
+    name: &'a Ident,
+    x: &ExprTree,
+) -> Result<Stmt, NoMemory>
+    ensures noted { OnOk result (sites.new.items
+        ≡ (expression x.now scope.old sites.old.items).1) }
+    ensures meant { IfOk result (λ s. s ≡ stmt.Const scope.old.constants
+        (expression x.now scope.old sites.old.items).0) }
+    ensures behind { OnOk result (scope.new ≡ past 1 (declaring name.now ty scope.old)) }
+{
+    let number = scope.constants();
+    let x = expression(alloc, sites, scope, x)?;
+    scope.declare(name, ty)?;
+    Ok(Stmt::Const(number, x))
+}
+
 #[cycle(statements)]
 fn statement<'a>(
     alloc: Global,
@@ -95,10 +117,7 @@ fn statement<'a>(
 {
     match s {
         StmtTree::Const(ty, name, x, _) => {
-            let number = scope.constants();
-            let x = expression(alloc, sites, scope, x)?;
-            scope.declare(name, type_named(ty))?;
-            Ok(Stmt::Const(number, x))
+            constant(alloc, sites, scope, type_named(ty), name, x)
         }
         StmtTree::If(condition, statements, other, _) => {
             let condition = expression(alloc, sites, scope, condition)?;
@@ -110,13 +129,7 @@ fn statement<'a>(
             Ok(Stmt::If(condition, statements, other))
         }
         StmtTree::Foreach(class, variable, _, statements, at) => {
-            let number = number_in(scope, class);
-            let loops = scope.loops();
-            let names = scope.len();
-            scope.enter(class, variable)?;
-            let statements = block(alloc, sites, scope, statements)?;
-            scope.leave(loops, names);
-            Ok(Stmt::Foreach(number, statements, *at))
+            each(alloc, sites, scope, class, variable, statements, *at)
         }
         StmtTree::Assign(name, x) => said(alloc, sites, scope, name.at, name, x),
         StmtTree::AssignThis(name, x, at) => said(alloc, sites, scope, *at, name, x),
@@ -125,6 +138,35 @@ fn statement<'a>(
             said_to_loop(alloc, sites, scope, variable.at, found, x)
         }
     }
+}
+
+// A loop at an offset.
+#[cycle(statements)]
+fn each<'a>(
+    alloc: Global,
+    sites: &mut Vec<u32>,
+    scope: &mut Scope<'_, '_, 'a>,
+    class: &Ident,
+    variable: &'a Ident,
+    statements: &'a List<StmtTree>,
+    at: u32,
+) -> Result<Stmt, NoMemory>
+    ensures noted { OnOk result (sites.new.items
+        ≡ (block (map part statements.now) (inside class.now variable.now scope.old)
+        sites.old.items).1) }
+    ensures meant { IfOk result (λ s. s ≡ stmt.Foreach (number_in scope.old class.now)
+        (block (map part statements.now) (inside class.now variable.now scope.old)
+        sites.old.items).0 at) }
+    ensures behind { OnOk result (scope.new
+        ≡ past (constants_in (map part statements.now)) scope.old) }
+{
+    let number = number_in(scope, class);
+    let loops = scope.loops();
+    let names = scope.len();
+    scope.enter(class, variable)?;
+    let statements = block(alloc, sites, scope, statements)?;
+    scope.leave(loops, names);
+    Ok(Stmt::Foreach(number, statements, at))
 }
 
 /// What a block means. Its sites are noted in finishing order, and its scope is left.

@@ -1,7 +1,7 @@
-ghost use Rattle.std.specs.Prelude.{◌≡◌};
+ghost use Rattle.std.specs.Prelude.{◌≡◌, option_map};
 ghost use Rattle.brace_model.specs.Typing.{same_type, is_number, unary_type, operation_type, binary_type, choice_type};
 ghost use Rattle.brace_names.specs.Scopes.{read, read_own, of_loop};
-ghost use Rattle.brace_check.specs.Types.{place, digits_type, field_type, is_shared, named_type, type_of};
+ghost use Rattle.brace_check.specs.Types.{place, digits_type, field_type, is_shared, named_type, typed_at, type_of};
 
 use brace_model::{BinOp, Ty, UnOp};
 use brace_names::{Field, Named, Scope, binary_named, unary_named};
@@ -140,6 +140,16 @@ fn named_type(named: Named) -> Ty
     }
 }
 
+// The type of what `n` or `this.n` stands for; of nothing its offset.
+fn typed_as(named: Option<Named>, at: u32) -> Result<Ty, u32>
+    ensures { result ≡ typed_at at (option_map named_type named) }
+{
+    match named {
+        Some(named) => Ok(named_type(named)),
+        None => Err(at),
+    }
+}
+
 /// The type of an expression, or the offset of the first operation, in finishing order, that does
 /// not fit its operands.
 pub fn type_of(scope: &Scope, x: &ExprTree) -> Result<Ty, u32>
@@ -148,14 +158,8 @@ pub fn type_of(scope: &Scope, x: &ExprTree) -> Result<Ty, u32>
     match x {
         ExprTree::Lit(number) => Ok(digits_type(number.digits)),
         ExprTree::True(_) | ExprTree::False(_) => Ok(Ty::Bool),
-        ExprTree::Name(name) => match scope.read(name.text.as_bytes()) {
-            Some(named) => Ok(named_type(named)),
-            None => Err(name.at),
-        },
-        ExprTree::OfThis(name, at) => match scope.read_own(name.text.as_bytes()) {
-            Some(named) => Ok(named_type(named)),
-            None => Err(*at),
-        },
+        ExprTree::Name(name) => typed_as(scope.read(name.text.as_bytes()), name.at),
+        ExprTree::OfThis(name, at) => typed_as(scope.read_own(name.text.as_bytes()), *at),
         ExprTree::OfLoop(variable, name) => {
             match scope.of_loop(variable.text.as_bytes(), name.text.as_bytes()) {
                 Some(found) => Ok(field_type(found.field)),

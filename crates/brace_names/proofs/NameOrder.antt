@@ -119,9 +119,7 @@ quiet_if false all e = refl
 pub quiet_typed : (t : TyName) → Silent (f.typed t)
 unfolding Silent
 quiet_typed ty.Int = refl
-quiet_typed ty.Fixed = refl
-quiet_typed ty.Bool = refl
-quiet_typed (ty.Other name) = refl
+quiet_typed _ = refl
 
 pub quiet_declares : (scope : Scope) (name : Ident) → Silent (f.declares scope name)
 unfolding Silent

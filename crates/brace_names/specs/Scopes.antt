@@ -1,6 +1,8 @@
 -- What is in scope at a place of a script, and what the names there stand for.
-use Rattle.std.specs.Prelude.{ℕ, ◌+◌, Bool, ◌||◌, List, [], Option, Some, None, slice_get, option_map, option_and_then}
+use Rattle.std.specs.Prelude.{ℕ, ◌+◌, Bool, true, false, ◌||◌, List, [], Option, Some, None, slice_get, option_map, option_and_then}
 use Rattle.brace_syntax.specs.declared.tree.Ident.{Ident}
+use Rattle.brace_syntax.specs.declared.tree.MemberTree.{MemberTree}
+use Rattle.brace_syntax.specs.declared.tree.MemberTree.TheVariants as m
 use Rattle.brace_syntax.specs.declared.tree.ClassTree.{ClassTree}
 use Rattle.brace_model.specs.declared.program.Ty.{Ty}
 use Rattle.brace_names.specs.declared.declared.Field.{Field}
@@ -35,6 +37,11 @@ pub record Scope : Type 0 where
 abbrev pub outermost : Home → Bool → Scope
 outermost home in_query =
     record { home = home; in_query = in_query; locals = []; loops = 0; constants = 0 }
+
+-- the member is the query of its class
+abbrev pub is_query : MemberTree → Bool
+is_query (m.Run statements at) = true
+is_query _ = false
 
 -- the name stands for a field of the class, a constant or a loop variable
 abbrev pub is_taken : Scope → List ℕ → Bool

@@ -3,8 +3,8 @@ ghost use Rattle.brace_names.specs.Tables.{repeated};
 ghost use Rattle.brace_names.specs.Findings.{faults_at};
 ghost use Rattle.brace_names.specs.Found.{rule, gift, states_given, gifts_found, member, too_many, position, declarations, class_names, found};
 ghost use Rattle.brace_names.specs.Walk.{in_classes};
-ghost use Rattle.brace_names.specs.Scopes.{home_of};
-ghost use Rattle.brace_names.specs.Classes.{fields};
+ghost use Rattle.brace_names.specs.Scopes.{Home, home_of, outermost, is_query};
+ghost use Rattle.brace_names.specs.Classes.{fields, known};
 ghost use Rattle.brace_names.specs.declared.fault.Which.TheVariants as which;
 ghost use Rattle.std.specs.Option.{option_map};
 ghost use Rattle.brace_names.specs.declared.fault.NameFault.TheVariants as fault;
@@ -21,15 +21,24 @@ use brace_num::{List, NoMemory};
 use brace_syntax::{ClassTree, ExprTree, GiftTree, MemberTree, Tree};
 use std::alloc::Global;
 
+// A name that stands again at each of these offsets is a fault.
+fn again(out: &mut Vec<Finding>, places: &[u32]) -> Result<(), NoMemory>
+    ensures { OnOk result (out.new.items ≡ out.old.items
+        ++ faults_at fault.DuplicateName places.now) }
+{
+    for at in places {
+        fault(out, NameFault::DuplicateName(*at))?;
+    }
+    Ok(())
+}
+
 // Each word that an earlier one equals is a fault.
 fn duplicates(alloc: Global, out: &mut Vec<Finding>, words: &[Word]) -> Result<(), NoMemory>
     ensures { OnOk result (out.new.items ≡ out.old.items
         ++ faults_at fault.DuplicateName (repeated words.now)) }
 {
-    for at in &repeats(alloc, words)? {
-        fault(out, NameFault::DuplicateName(*at))?;
-    }
-    Ok(())
+    let places = repeats(alloc, words)?;
+    again(out, places.as_slice())
 }
 
 fn rule(out: &mut Vec<Finding>, scope: &Scope, x: &Option<ExprTree>) -> Result<(), NoMemory>
@@ -58,6 +67,27 @@ fn states_given<'a>(
     Ok(names)
 }
 
+// Each state that is given twice is a fault.
+fn given_twice(
+    alloc: Global,
+    out: &mut Vec<Finding>,
+    scope: &Scope,
+    gifts: &[GiftTree],
+) -> Result<(), NoMemory>
+    ensures { OnOk result (out.new.items ≡ out.old.items
+        ++ faults_at fault.DuplicateName (repeated (states_given scope.now gifts.now))) }
+{
+    let given = states_given(alloc, scope, gifts)?;
+    duplicates(alloc, out, given.as_slice())
+}
+
+fn gift(out: &mut Vec<Finding>, scope: &Scope, one: &GiftTree) -> Result<(), NoMemory>
+    ensures { OnOk result (out.new.items ≡ out.old.items ++ gift scope.now one.now) }
+{
+    assign(out, scope, one.state.at, &one.state)?;
+    expression(out, scope, &one.value)
+}
+
 // The gifts of a `spawn` at an offset, and the site that it is.
 fn gifts(
     alloc: Global,
@@ -68,13 +98,37 @@ fn gifts(
 ) -> Result<(), NoMemory>
     ensures { OnOk result (out.new.items ≡ out.old.items ++ gifts_found scope.now gifts.now at) }
 {
-    for gift in gifts.as_slice() {
-        assign(out, scope, gift.state.at, &gift.state)?;
-        expression(out, scope, &gift.value)?;
+    for one in gifts.as_slice() {
+        gift(out, scope, one)?;
     }
-    let given = states_given(alloc, scope, gifts.as_slice())?;
-    duplicates(alloc, out, given.as_slice())?;
+    given_twice(alloc, out, scope, gifts.as_slice())?;
     site(out, at)
+}
+
+// A member in the scope outside its blocks.
+fn member_in<'a>(
+    alloc: Global,
+    out: &mut Vec<Finding>,
+    scope: &mut Scope<'_, '_, 'a>,
+    one: &'a MemberTree,
+) -> Result<(), NoMemory>
+    ensures { OnOk result ((home : Home) → scope.old ≡ outermost home (is_query one.now)
+        → out.new.items ≡ out.old.items ++ member home one.now) }
+{
+    match one {
+        MemberTree::Visible(_, _) | MemberTree::Reach(_, _) => Ok(()),
+        MemberTree::State(_, ty, _, x, _) => {
+            type_name(out, ty)?;
+            rule(out, scope, x)
+        }
+        MemberTree::Effect(_, ty, _, _, _) => type_name(out, ty),
+        MemberTree::Run(statements, _) => block(out, scope, statements),
+        MemberTree::Die(condition, _) => expression(out, scope, condition),
+        MemberTree::Spawn(condition, given, at) => {
+            expression(out, scope, condition)?;
+            gifts(alloc, out, scope, given, *at)
+        }
+    }
 }
 
 fn member<'a>(
@@ -85,26 +139,23 @@ fn member<'a>(
 ) -> Result<(), NoMemory>
     ensures { OnOk result (out.new.items ≡ out.old.items ++ member home.now one.now) }
 {
-    match one {
-        MemberTree::Visible(_, _) | MemberTree::Reach(_, _) => Ok(()),
-        MemberTree::State(_, ty, _, x, _) => {
-            type_name(out, ty)?;
-            rule(out, &Scope::outermost(alloc, home, false), x)
-        }
-        MemberTree::Effect(_, ty, _, _, _) => type_name(out, ty),
-        MemberTree::Run(statements, _) => {
-            let mut scope = Scope::outermost(alloc, home, true);
-            block(out, &mut scope, statements)
-        }
-        MemberTree::Die(condition, _) => {
-            expression(out, &Scope::outermost(alloc, home, false), condition)
-        }
-        MemberTree::Spawn(condition, given, at) => {
-            let scope = Scope::outermost(alloc, home, false);
-            expression(out, &scope, condition)?;
-            gifts(alloc, out, &scope, given, *at)
-        }
+    let mut scope = Scope::of(alloc, home, one);
+    member_in(alloc, out, &mut scope, one)
+}
+
+fn each_member<'a>(
+    alloc: Global,
+    out: &mut Vec<Finding>,
+    home: &Home<'_, 'a>,
+    members: &'a [MemberTree],
+) -> Result<(), NoMemory>
+    ensures { OnOk result (out.new.items ≡ out.old.items
+        ++ flat_map (member home.now) members.now) }
+{
+    for one in members {
+        member(alloc, out, home, one)?;
     }
+    Ok(())
 }
 
 // The members of the class of a number.
@@ -124,10 +175,7 @@ fn members<'a>(
         number,
         own: &own,
     };
-    for one in class.members.as_slice() {
-        member(alloc, out, &home, one)?;
-    }
-    Ok(())
+    each_member(alloc, out, &home, class.members.as_slice())
 }
 
 // The first class past the limit.
@@ -176,18 +224,35 @@ fn declarations(alloc: Global, out: &mut Vec<Finding>, class: &ClassTree) -> Res
     position(out, class)
 }
 
-// The names of the classes.
-fn class_names(alloc: Global, out: &mut Vec<Finding>, classes: &[ClassTree]) -> Result<(), NoMemory>
+// Each class whose name an earlier one has is a fault.
+fn classes_again(out: &mut Vec<Finding>, places: &[u32]) -> Result<(), NoMemory>
     ensures { OnOk result (out.new.items ≡ out.old.items
-        ++ class_names (map (λ class. class.name) classes.now)) }
+        ++ faults_at fault.DuplicateClass places.now) }
+{
+    for at in places {
+        fault(out, NameFault::DuplicateClass(*at))?;
+    }
+    Ok(())
+}
+
+fn names_of<'a>(alloc: Global, classes: &'a [ClassTree]) -> Result<Vec<Word<'a>>, NoMemory>
+    ensures { IfOk result (λ names. names.items ≡ map (λ class. class.name) classes.now) }
 {
     let mut names = Vec::new(alloc);
     for class in classes {
         names.push(Word::of(&class.name))?;
     }
-    for at in &repeats(alloc, names.as_slice())? {
-        fault(out, NameFault::DuplicateClass(*at))?;
-    }
+    Ok(names)
+}
+
+// The names of the classes.
+fn class_names(alloc: Global, out: &mut Vec<Finding>, classes: &[ClassTree]) -> Result<(), NoMemory>
+    ensures { OnOk result (out.new.items ≡ out.old.items
+        ++ class_names (map (λ class. class.name) classes.now)) }
+{
+    let names = names_of(alloc, classes)?;
+    let places = repeats(alloc, names.as_slice())?;
+    classes_again(out, places.as_slice())?;
     past_classes(out, names.as_slice())
 }
 
@@ -223,15 +288,34 @@ fn all_members<'a>(
     Ok(())
 }
 
+// The members of all classes, by what these declare.
+fn known_members(
+    alloc: Global,
+    out: &mut Vec<Finding>,
+    classes: &[ClassTree],
+) -> Result<(), NoMemory>
+    ensures { OnOk result (out.new.items ≡ out.old.items
+        ++ in_classes member (known classes.now) 0 classes.now) }
+{
+    let known = Classes::of(alloc, classes)?;
+    all_members(alloc, out, &known, classes)
+}
+
+// Notes what is found in a script.
+fn note(alloc: Global, out: &mut Vec<Finding>, tree: &Tree) -> Result<(), NoMemory>
+    ensures { OnOk result (out.new.items ≡ out.old.items ++ found tree.now) }
+{
+    let classes = tree.classes.as_slice();
+    class_names(alloc, out, classes)?;
+    all_declarations(alloc, out, classes)?;
+    known_members(alloc, out, classes)
+}
+
 /// What is found in a script.
 pub fn found(alloc: Global, tree: &Tree) -> Result<Vec<Finding>, NoMemory>
     ensures { IfOk result (λ all. all.items ≡ found tree.now) }
 {
-    let classes = tree.classes.as_slice();
-    let known = Classes::of(alloc, classes)?;
     let mut out = Vec::new(alloc);
-    class_names(alloc, &mut out, classes)?;
-    all_declarations(alloc, &mut out, classes)?;
-    all_members(alloc, &mut out, &known, classes)?;
+    note(alloc, &mut out, tree)?;
     Ok(out)
 }

@@ -1,6 +1,6 @@
-ghost use Rattle.std.specs.Prelude.{◌≡◌, ◌+◌, IfOk, slice_get, option_and_then};
+ghost use Rattle.std.specs.Prelude.{◌≡◌, ◌+◌, IfOk, OnOk, map, fold, slice_get, option_and_then};
 ghost use Rattle.std.specs.List.{list_any};
-ghost use Rattle.brace_names.specs.Tables.{look, table};
+ghost use Rattle.brace_names.specs.Tables.{look, table, with_name};
 ghost use Rattle.brace_names.specs.Classes.{title, fields, numbered_from, known, is_coordinate, has_position, Known};
 
 use crate::kinds::{comb_named, type_named};
@@ -101,15 +101,38 @@ pub fn fields<'a>(alloc: Global, class: &'a ClassTree) -> Result<Vec<Declared<'a
     Ok(all)
 }
 
+// Lets the names of fields stand for them, too.
+fn add_all<'a>(names: &mut Names<'a, Field>, fields: &[Declared<'a>]) -> Result<(), NoMemory>
+    ensures { OnOk result (names.new
+        ≡ fold (λ names one. with_name names one.0.text one.1) names.old fields.now) }
+{
+    for one in fields {
+        names.add(one.name.text(), one.field)?;
+    }
+    Ok(())
+}
+
 /// What the names of fields stand for.
 pub fn field_table<'a>(alloc: Global, class: &'a ClassTree) -> Result<Names<'a, Field>, NoMemory>
     ensures { IfOk result (λ names. names ≡ table (fields class.now)) }
 {
+    let fields = fields(alloc, class)?;
     let mut names = Names::new(alloc);
-    for one in &fields(alloc, class)? {
-        names.add(one.name.text(), one.field)?;
-    }
+    add_all(&mut names, fields.as_slice())?;
     Ok(names)
+}
+
+fn field_tables<'a>(
+    alloc: Global,
+    classes: &'a [ClassTree],
+) -> Result<Vec<Names<'a, Field>>, NoMemory>
+    ensures { IfOk result (λ all. all.items ≡ map (λ class. table (fields class)) classes.now) }
+{
+    let mut all = Vec::new(alloc);
+    for class in classes {
+        all.push(field_table(alloc, class)?)?;
+    }
+    Ok(all)
 }
 
 fn class_table<'a>(alloc: Global, classes: &'a [ClassTree]) -> Result<Names<'a, u32>, NoMemory>
@@ -130,10 +153,7 @@ impl<'a> Classes<'a> {
         ensures { IfOk result (λ all. all ≡ known classes.now) }
     {
         let numbers = class_table(alloc, classes)?;
-        let mut fields = Vec::new(alloc);
-        for class in classes {
-            fields.push(field_table(alloc, class)?)?;
-        }
+        let fields = field_tables(alloc, classes)?;
         Ok(Classes { numbers, fields })
     }
 

@@ -1,12 +1,12 @@
 ghost use Rattle.std.specs.Prelude.{◌≡◌, ◌+◌, take, length, OnOk};
-ghost use Rattle.brace_names.specs.Scopes.{Scope, outermost, is_taken, class_number, field_in, read, read_own, of_loop, inside, past, declaring};
+ghost use Rattle.brace_names.specs.Scopes.{Scope, outermost, is_query, is_taken, class_number, field_in, read, read_own, of_loop, inside, past, declaring};
 ghost use Rattle.brace_names.specs.Tables.{look};
 
 use crate::declared::{Classes, Field, next};
 use crate::names::Names;
 use brace_model::Ty;
 use brace_num::NoMemory;
-use brace_syntax::Ident;
+use brace_syntax::{Ident, MemberTree};
 use std::alloc::Global;
 use std::marker::Model;
 
@@ -75,9 +75,26 @@ impl<'h, 's, 'a> Model for Scope<'h, 's, 'a> {
     } };
 }
 
+// Whether the member is the query of its class.
+fn is_query(member: &MemberTree) -> bool
+    ensures { result ≡ is_query member.now }
+{
+    match member {
+        MemberTree::Run(_, _) => true,
+        _ => false,
+    }
+}
+
 impl<'h, 's, 'a> Scope<'h, 's, 'a> {
-    /// The scope outside all blocks of a class.
-    pub fn outermost(alloc: Global, home: &'h Home<'s, 'a>, in_query: bool) -> Scope<'h, 's, 'a>
+    /// The scope outside all blocks of a member of a class.
+    pub fn of(alloc: Global, home: &'h Home<'s, 'a>, member: &MemberTree) -> Scope<'h, 's, 'a>
+        ensures { result ≡ outermost home.now (is_query member.now) }
+    {
+        Scope::outermost(alloc, home, is_query(member))
+    }
+
+    // The scope outside all blocks of a class.
+    fn outermost(alloc: Global, home: &'h Home<'s, 'a>, in_query: bool) -> Scope<'h, 's, 'a>
         ensures { result ≡ outermost home.now in_query }
     {
         Scope {

@@ -1,7 +1,9 @@
 ghost use Rattle.std.specs.Prelude.{◌≡◌, ◌++◌, map, OnOk};
-ghost use Rattle.brace_names.specs.Scopes.{past};
+ghost use Rattle.brace_names.specs.Scopes.{past, declaring, inside};
 ghost use Rattle.brace_names.specs.Walk.{behind, block, constants_in};
-ghost use Rattle.brace_names.specs.Found.{part};
+ghost use Rattle.brace_names.specs.Kinds.{type_named};
+ghost use Rattle.brace_names.specs.Findings.{typed, declares, assigns, loops_over};
+ghost use Rattle.brace_names.specs.Found.{expression, part};
 
 use crate::expr::expression;
 use crate::finding::Finding;
@@ -9,7 +11,41 @@ use crate::kinds::type_named;
 use crate::place::{assign, assign_of_loop, declare, loop_over, type_name};
 use crate::scope::Scope;
 use brace_num::{List, NoMemory};
-use brace_syntax::StmtTree;
+use brace_syntax::{ExprTree, Ident, StmtTree, TyName};
+
+// A constant.
+fn constant<'a>(
+    out: &mut Vec<Finding>,
+    scope: &mut Scope<'_, '_, 'a>,
+    ty: &TyName,
+    name: &'a Ident,
+    x: &ExprTree,
+) -> Result<(), NoMemory>
+    ensures found { OnOk result (out.new.items ≡ out.old.items
+        ++ typed ty.now ++ declares scope.old name.now ++ expression x.now scope.old) }
+    ensures behind { OnOk result (scope.new
+        ≡ past 1 (declaring name.now (type_named ty.now) scope.old)) }
+{
+    type_name(out, ty)?;
+    declare(out, scope, name)?;
+    expression(out, scope, x)?;
+    scope.declare(name, type_named(ty))
+}
+
+// An assignment to a field of `this`, which stands at an offset.
+fn assigned(
+    out: &mut Vec<Finding>,
+    scope: &Scope,
+    at: u32,
+    name: &Ident,
+    x: &ExprTree,
+) -> Result<(), NoMemory>
+    ensures { OnOk result (out.new.items ≡ out.old.items
+        ++ assigns scope.now at name.now ++ expression x.now scope.now) }
+{
+    assign(out, scope, at, name)?;
+    expression(out, scope, x)
+}
 
 #[cycle(statements)]
 fn statement<'a>(
@@ -21,12 +57,7 @@ fn statement<'a>(
     ensures behind { OnOk result (scope.new ≡ behind (part s.now) scope.old) }
 {
     match s {
-        StmtTree::Const(ty, name, x, _) => {
-            type_name(out, ty)?;
-            declare(out, scope, name)?;
-            expression(out, scope, x)?;
-            scope.declare(name, type_named(ty))
-        }
+        StmtTree::Const(ty, name, x, _) => constant(out, scope, ty, name, x),
         StmtTree::If(condition, statements, other, _) => {
             expression(out, scope, condition)?;
             block(out, scope, statements)?;
@@ -36,28 +67,41 @@ fn statement<'a>(
             }
         }
         StmtTree::Foreach(class, variable, other, statements, _) => {
-            let loops = scope.loops();
-            let names = scope.len();
-            loop_over(out, scope, class, other)?;
-            declare(out, scope, variable)?;
-            scope.enter(class, variable)?;
-            block(out, scope, statements)?;
-            scope.leave(loops, names);
-            Ok(())
+            each(out, scope, class, variable, other, statements)
         }
-        StmtTree::Assign(name, x) => {
-            assign(out, scope, name.at, name)?;
-            expression(out, scope, x)
-        }
-        StmtTree::AssignThis(name, x, at) => {
-            assign(out, scope, *at, name)?;
-            expression(out, scope, x)
-        }
+        StmtTree::Assign(name, x) => assigned(out, scope, name.at, name, x),
+        StmtTree::AssignThis(name, x, at) => assigned(out, scope, *at, name, x),
         StmtTree::AssignLoop(variable, name, x) => {
             assign_of_loop(out, scope, variable, name)?;
             expression(out, scope, x)
         }
     }
+}
+
+// A loop.
+#[cycle(statements)]
+fn each<'a>(
+    out: &mut Vec<Finding>,
+    scope: &mut Scope<'_, '_, 'a>,
+    class: &Ident,
+    variable: &'a Ident,
+    other: &Ident,
+    statements: &'a List<StmtTree>,
+) -> Result<(), NoMemory>
+    ensures found { OnOk result (out.new.items ≡ out.old.items
+        ++ (loops_over scope.old class.now other.now ++ declares scope.old variable.now)
+        ++ block (map part statements.now) (inside class.now variable.now scope.old)) }
+    ensures behind { OnOk result (scope.new
+        ≡ past (constants_in (map part statements.now)) scope.old) }
+{
+    let loops = scope.loops();
+    let names = scope.len();
+    loop_over(out, scope, class, other)?;
+    declare(out, scope, variable)?;
+    scope.enter(class, variable)?;
+    block(out, scope, statements)?;
+    scope.leave(loops, names);
+    Ok(())
 }
 
 /// Notes what is found in a block, and leaves its scope.

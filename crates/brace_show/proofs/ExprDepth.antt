@@ -1,5 +1,5 @@
 -- The brackets and operators of an expression: what it is read from has as many at least, and its canonical row has no more.
-use Rattle.std.proofs.Common.{◌≡◌, refl, sym, ap, ◌∙◌, subst, ℕ, ◌+◌, ◌≤◌, ◌/◌, ◌%◌, nat_lt, max, List, [], ◌∷◌, ◌++◌, Bool, true, false, ◌&&◌, if◌then◌else◌, Some, arith, append_assoc, pos, negsuc, codes}
+use Rattle.std.proofs.Common.{◌≡◌, refl, sym, ap, ◌∙◌, subst, ℕ, ◌+◌, ◌≤◌, ◌/◌, ◌%◌, nat_lt, max, List, [], ◌∷◌, ◌++◌, Bool, true, false, ◌&&◌, if◌then◌else◌, Some, arith, append_assoc, pos, codes}
 use Rattle.std.specs.Fmt.{decimal}
 use Rattle.std.proofs.lemmas.Bool.Decides.{nat_tests}
 use Rattle.std.proofs.lemmas.Option.{same_Some}
@@ -62,20 +62,11 @@ between_measure level left right x y = record { level = level; brackets = max (b
 abbrev unary_measure : UnName → Measure → Measure
 unary_measure un.Neg = prefixed_measure
 unary_measure un.Not = prefixed_measure
-unary_measure un.Abs = call_one_measure
-unary_measure un.Sqrt = call_one_measure
-unary_measure un.ToFixed = call_one_measure
-unary_measure un.Trunc = call_one_measure
+unary_measure _ = call_one_measure
 
 abbrev binary_measure : BinName → Measure → Measure → Measure
 binary_measure bin.Or = between_measure 2 2 3
 binary_measure bin.And = between_measure 3 3 4
-binary_measure bin.Lt = between_measure 4 5 5
-binary_measure bin.Le = between_measure 4 5 5
-binary_measure bin.Gt = between_measure 4 5 5
-binary_measure bin.Ge = between_measure 4 5 5
-binary_measure bin.Eq = between_measure 4 5 5
-binary_measure bin.Ne = between_measure 4 5 5
 binary_measure bin.Add = between_measure 5 5 6
 binary_measure bin.Sub = between_measure 5 5 6
 binary_measure bin.Mul = between_measure 6 6 7
@@ -83,21 +74,17 @@ binary_measure bin.Div = between_measure 6 6 7
 binary_measure bin.Rem = between_measure 6 6 7
 binary_measure bin.Min = call_two_measure
 binary_measure bin.Max = call_two_measure
+binary_measure _ = between_measure 4 5 5
 
 abbrev choice_measure : Measure → Measure → Measure → Measure
 choice_measure c x y = record { level = 1; brackets = max (brackets_at 2 c) (max (brackets_at 1 x) (brackets_at 1 y)); count = c.count + 1 + x.count + y.count }
 
 abbrev measure_step : expr.ExprTree-F Measure → Measure
-measure_step (expr.Lit n) = atom_measure 0
-measure_step (expr.True at) = atom_measure 0
-measure_step (expr.False at) = atom_measure 0
-measure_step (expr.Name name) = atom_measure 0
-measure_step (expr.OfThis name at) = atom_measure 0
-measure_step (expr.OfLoop loop name) = atom_measure 0
 measure_step (expr.Unary op x at) = unary_measure op x
 measure_step (expr.Binary op x y at) = binary_measure op x y
 measure_step (expr.Choice c x y at) = choice_measure c x y
 measure_step (expr.Rand at) = atom_measure 1
+measure_step _ = atom_measure 0
 
 abbrev pub measure : ExprTree → Measure
 measure = fold-ExprTree Measure measure_step
@@ -142,14 +129,8 @@ own : (n : ℕ) (x : Measure) → n ≤ x.level → brackets_at n x ≤ x.bracke
 own n x h = own_by (nat_lt x.level n) n x.level x.brackets h refl
 
 tighter : (row inner : g.Row) → operands row ≡ Some inner → need row ≤ need inner
-tighter g.choices inner h = omega (arith, ap need (same_Some _ _ h))
-tighter g.ors inner h = omega (arith, ap need (same_Some _ _ h))
-tighter g.ands inner h = omega (arith, ap need (same_Some _ _ h))
-tighter g.comparisons inner h = omega (arith, ap need (same_Some _ _ h))
-tighter g.sums inner h = omega (arith, ap need (same_Some _ _ h))
-tighter g.products inner h = omega (arith, ap need (same_Some _ _ h))
-tighter g.prefixed inner h = omega (arith, ap need (same_Some _ _ h))
 tighter g.primaries inner h = absurd (cc)
+tighter _ inner h = omega (arith, ap need (same_Some _ _ h))
 
 -- the kind is that of an operator
 abbrev Operates : TokKind → Type 0
@@ -430,9 +411,8 @@ atom_fine n row f = fine 8 n 0 row (λ o c l. let e' : c ≡ c + 0 = omega arith
 
 pub literal_runs : (d : Digits) → digits_are d ≡ true → (o c : ℕ) → Runs o c (literal_row d) o c
 literal_runs (Int (pos n)) s o c = plain (k.Int (pos n)) (whole (decimal n)) o c (λ from. whole_says from n s) refl refl
-literal_runs (Int (negsuc n)) s o c = absurd (cc)
 literal_runs (Fixed (pos n)) s o c = plain (k.Fixed (pos n)) (fraction (decimal (n / 1000000)) (shortened (six_digits (n % 1000000)))) o c (λ from. fraction_says from n s) refl refl
-literal_runs (Fixed (negsuc n)) s o c = absurd (cc)
+literal_runs _ s o c = absurd (cc)
 
 pub name_runs : (text : List ℕ) → is_name text ≡ true → (o c : ℕ) → Runs o c (letters text) o c
 name_runs text s o c = plain k.Word (word text) o c (λ from. name_says from text s) refl refl

@@ -48,23 +48,11 @@ need g.primaries = 8
 
 least : (s : g.Row) → nat_lt (need s) 1 ≡ false
 least g.choices = refl
-least g.ors = refl
-least g.ands = refl
-least g.comparisons = refl
-least g.sums = refl
-least g.products = refl
-least g.prefixed = refl
-least g.primaries = refl
+least _ = refl
 
 greatest : (r : g.Row) → nat_lt 8 (need r) ≡ false
 greatest g.choices = refl
-greatest g.ors = refl
-greatest g.ands = refl
-greatest g.comparisons = refl
-greatest g.sums = refl
-greatest g.products = refl
-greatest g.prefixed = refl
-greatest g.primaries = refl
+greatest _ = refl
 
 -- an expression of a tighter row is one of a looser row
 module _ (src : List ℕ) (a : List Token) (x : ExprTree) where

@@ -1,5 +1,5 @@
 -- The pieces of a sound expression stand before what is no part of it.
-use Rattle.std.proofs.Common.{◌≡◌, ◌∙◌, sym, ap, subst, refl, ℕ, nat_lt, nat_le, ◌==◌, Bool, true, false, not, ◌&&◌, if◌then◌else◌, List, [], ◌∷◌, ◌++◌, length, is_some, codes, pos, negsuc, ◌/◌, arith, append_assoc}
+use Rattle.std.proofs.Common.{◌≡◌, ◌∙◌, sym, ap, subst, refl, ℕ, nat_lt, nat_le, ◌==◌, Bool, true, false, not, ◌&&◌, if◌then◌else◌, List, [], ◌∷◌, ◌++◌, length, is_some, codes, pos, ◌/◌, arith, append_assoc}
 use Rattle.std.specs.Fmt.{decimal}
 use Rattle.std.proofs.lemmas.Bool.{ne_eqb, and_parts, and_from}
 use Rattle.brace_num.specs.Names.{is_digit, is_letter, begins, is_word, is_name}
@@ -55,9 +55,8 @@ opens_fraction (b ∷ ds) decimals e after = no_equals b (other is_digit b 61 ((
 
 literal_opens : (d : Digits) → digits_are d ≡ true → Opens (literal_row d)
 literal_opens (Int (pos n)) e = opens_whole (decimal n) (decimal_digits n (word_fits n e))
-literal_opens (Int (negsuc n)) e = absurd (cc)
 literal_opens (Fixed (pos n)) e = opens_fraction (decimal (n / 1000000)) _ (decimal_digits (n / 1000000) (omega (arith, word_fits n e)))
-literal_opens (Fixed (negsuc n)) e = absurd (cc)
+literal_opens _ e = absurd (cc)
 
 -- expressions
 pub record Fit (p : Phrased) : Type 0 where

@@ -1,5 +1,5 @@
 -- Rows of pieces that stand before what may follow them: each piece is the longest at its place, and no fault.
-use Rattle.std.proofs.Common.{◌≡◌, ◌∙◌, ap, refl, ℕ, nat_le, ◌==◌, Bool, true, false, not, ◌&&◌, if◌then◌else◌, List, [], ◌∷◌, ◌++◌, length, Option, Some, None, is_some, codes, pos, negsuc, ◌/◌, arith, append_assoc}
+use Rattle.std.proofs.Common.{◌≡◌, ◌∙◌, ap, refl, ℕ, nat_le, ◌==◌, Bool, true, false, not, ◌&&◌, if◌then◌else◌, List, [], ◌∷◌, ◌++◌, length, Option, Some, None, is_some, codes, pos, ◌/◌, arith, append_assoc}
 use Rattle.std.proofs.lemmas.Bool.{and_parts, or_parts, not-true, and_from}
 use Rattle.brace_num.specs.Names.{is_digit, is_letter, is_word_byte, begins, is_word, is_name}
 use Rattle.brace_tok.specs.Bytes.{begins_fraction, begins_comment}
@@ -118,7 +118,6 @@ no_fraction (b ∷ after) h = ap (λ v. not (v && begins is_digit after)) (not_a
 pub literal_stands : (d : Digits) → digits_are d ≡ true → Stands stops (literal_row d)
 literal_stands (Int (pos n)) e after h =
     and_from _ _ (and_from _ _ (and_from _ _ (decimal_digits n (word_fits n e)) (and_from _ _ (no_digit after h) (no_fraction after h))) (ap is_sound (whole_says 0 n e))) refl
-literal_stands (Int (negsuc n)) e after h = absurd (cc)
 literal_stands (Fixed (pos n)) e after h =
     and_from _ _ (and_from _ _ (and_from _ _ (and_from _ _ (decimal_digits (n / 1000000) (omega (arith, word_fits n e))) (fraction_digits n)) (no_digit after h)) (ap is_sound (fraction_says 0 n e))) refl
-literal_stands (Fixed (negsuc n)) e after h = absurd (cc)
+literal_stands _ e after h = absurd (cc)

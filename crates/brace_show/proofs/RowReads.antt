@@ -92,10 +92,7 @@ member_of src false tok a x h r = g.private a tok x h r
 
 combinator_word : (c : CombName) → combinator_row c ≡ letters (combinator c)
 combinator_word comb.Sum = refl
-combinator_word comb.Min = refl
-combinator_word comb.Max = refl
-combinator_word comb.Count = refl
-combinator_word comb.Or = refl
+combinator_word _ = refl
 
 abbrev combinator_kind : CombName → TokKind
 combinator_kind comb.Sum = k.KwSum
@@ -107,17 +104,11 @@ combinator_kind comb.Or = k.KwOr
 combinator_says : (c : CombName) (from : ℕ) → role_at from (word (combinator c)) ≡ token (combinator_kind c)
 unfolding reserved
 combinator_says comb.Sum from = refl
-combinator_says comb.Min from = refl
-combinator_says comb.Max from = refl
-combinator_says comb.Count from = refl
-combinator_says comb.Or from = refl
+combinator_says _ from = refl
 
 combines_it : (c : CombName) → combines (combinator_kind c) ≡ Some c
 combines_it comb.Sum = refl
-combines_it comb.Min = refl
-combines_it comb.Max = refl
-combines_it comb.Count = refl
-combines_it comb.Or = refl
+combines_it _ = refl
 
 -- `public state T n`, with what stands behind it
 state_then : (C : List Token → Type 0) (shared : Bool) (t : TyName) (name : Ident) → type_is t ≡ true → is_name name.text ≡ true → (rest : Row) (src : List ℕ) (toks : List Token)

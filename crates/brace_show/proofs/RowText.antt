@@ -1,5 +1,5 @@
 -- The rows of pieces of a script have its canonical text.
-use Rattle.std.proofs.Common.{◌≡◌, ◌∙◌, sym, ap, subst, refl, ℕ, zero, suc, nat_lt, ◌+◌, Bool, true, false, if◌then◌else◌, List, [], ◌∷◌, ◌++◌, map, flat_map, Option, Some, None, codes, pos, negsuc, append_assoc, append-nil, arith}
+use Rattle.std.proofs.Common.{◌≡◌, ◌∙◌, sym, ap, subst, refl, ℕ, zero, suc, nat_lt, ◌+◌, Bool, true, false, if◌then◌else◌, List, [], ◌∷◌, ◌++◌, map, flat_map, Option, Some, None, codes, negsuc, append_assoc, append-nil, arith}
 use Rattle.brace_tok.specs.Spells.{text_of}
 use Rattle.brace_tok.specs.Pieces.{blank, hash, bytes_of}
 use Rattle.brace_syntax.specs.declared.tree.Digits.{Digits}
@@ -13,7 +13,7 @@ use Rattle.brace_syntax.specs.declared.tree.TyName.TheVariants as ty
 use Rattle.brace_syntax.specs.declared.tree.CombName.{CombName}
 use Rattle.brace_syntax.specs.declared.tree.CombName.TheVariants as comb
 use Rattle.brace_syntax.specs.declared.tree.ExprTree.{ExprTree}
-use Rattle.brace_syntax.specs.declared.tree.ExprTree.TheOpen.{ExprTree-F, Lit, True, False, Name, OfThis, OfLoop, Unary, Binary, Choice, Rand}
+use Rattle.brace_syntax.specs.declared.tree.ExprTree.TheOpen.{ExprTree-F, Lit, Name, OfThis, OfLoop, Unary, Binary, Choice}
 use Rattle.brace_syntax.specs.declared.tree.ExprTree.TheFolds.{map-ExprTree, fold-roll-ExprTree, ind-ExprTree}
 use Rattle.brace_syntax.specs.declared.tree.StmtTree.{StmtTree}
 use Rattle.brace_syntax.specs.declared.tree.StmtTree.TheOpen.{StmtTree-F, Const, If, Foreach, Assign, AssignThis, AssignLoop}
@@ -66,10 +66,9 @@ abbrev spoken : Phrased → Phrase
 spoken p = record { level = p.level; text = text_of p.row }
 
 literal_spoken : (digits : Digits) → text_of (literal_row digits) ≡ literal digits
-literal_spoken (Int (pos n)) = append-nil _
 literal_spoken (Int (negsuc n)) = ap (λ t. 45 ∷ t) (append-nil _)
-literal_spoken (Fixed (pos n)) = append-nil _
 literal_spoken (Fixed (negsuc n)) = ap (λ t. 45 ∷ t) (append-nil _)
+literal_spoken _ = append-nil _
 
 at_spoken : (needed : ℕ) (p : Phrased) → text_of (row_at needed p) ≡ at_level needed (spoken p)
 at_spoken needed p =
@@ -129,15 +128,13 @@ binary_spoken bin.Max p q = two_spoken (codes "max") p q
 -- a phrase of each kind
 step_spoken : (x : ExprTree-F Phrased) → spoken (phrased_step x) ≡ phrase_step (map-ExprTree Phrased Phrase spoken x)
 step_spoken (Lit number) = ap atom (literal_spoken number.digits)
-step_spoken (True at) = refl
-step_spoken (False at) = refl
 step_spoken (Name name) = ap atom (append-nil name.text)
 step_spoken (OfThis name at) = ap atom (simp append-nil)
 step_spoken (OfLoop loop name) = ap atom (follow (ended (lettered loop.text) (mark (codes ".") ∷ [])) (lettered name.text)).same
 step_spoken (Unary op p at) = unary_spoken op p
 step_spoken (Binary op p q at) = binary_spoken op p q
 step_spoken (Choice c p q at) = choice_spoken c p q
-step_spoken (Rand at) = refl
+step_spoken _ = refl
 
 abbrev IsSpoken : ExprTree → Type 0
 IsSpoken x = spoken (phrased_of x) ≡ phrase_of x
@@ -149,16 +146,10 @@ tree_of e = e.0
 step_agrees : (y : ExprTree-F ((x : ExprTree) × IsSpoken x))
     → map-ExprTree Phrased Phrase spoken (map-ExprTree ExprTree Phrased phrased_of (map-ExprTree ((x : ExprTree) × IsSpoken x) ExprTree tree_of y))
     ≡ map-ExprTree ExprTree Phrase phrase_of (map-ExprTree ((x : ExprTree) × IsSpoken x) ExprTree tree_of y)
-step_agrees (Lit number) = refl
-step_agrees (True at) = refl
-step_agrees (False at) = refl
-step_agrees (Name name) = refl
-step_agrees (OfThis name at) = refl
-step_agrees (OfLoop loop name) = refl
 step_agrees (Unary op p at) = ap (λ v. Unary op v at) p.1
 step_agrees (Binary op p q at) = rw (p.1, q.1) refl
 step_agrees (Choice c p q at) = rw (c.1, p.1, q.1) refl
-step_agrees (Rand at) = refl
+step_agrees _ = refl
 
 -- the phrase of an expression is what its row is
 pub phrase_spoken : (x : ExprTree) → spoken (phrased_of x) ≡ phrase_of x
@@ -188,17 +179,12 @@ abbrev valued : ExprTree → Said
 valued x = said (expression_row x) (expression x) (expression_text x)
 
 type_said : (type : TyName) → text_of (type_row type) ≡ type_text type
-type_said ty.Int = refl
-type_said ty.Fixed = refl
-type_said ty.Bool = refl
 type_said (ty.Other name) = append-nil name.text
+type_said _ = refl
 
 combinator_said : (comb : CombName) → text_of (combinator_row comb) ≡ combinator comb
 combinator_said comb.Sum = refl
-combinator_said comb.Min = refl
-combinator_said comb.Max = refl
-combinator_said comb.Count = refl
-combinator_said comb.Or = refl
+combinator_said _ = refl
 
 sharing_said : (shared : Bool) → text_of (sharing_row shared) ≡ sharing shared
 sharing_said true = refl

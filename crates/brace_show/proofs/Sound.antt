@@ -7,7 +7,7 @@ use Rattle.brace_syntax.specs.declared.tree.Digits.TheVariants.{Int, Fixed}
 use Rattle.brace_syntax.specs.declared.tree.TyName.{TyName}
 use Rattle.brace_syntax.specs.declared.tree.TyName.TheVariants as ty
 use Rattle.brace_syntax.specs.declared.tree.ExprTree.{ExprTree}
-use Rattle.brace_syntax.specs.declared.tree.ExprTree.TheOpen.{ExprTree-F, Lit, True, False, Name, OfThis, OfLoop, Unary, Binary, Choice, Rand}
+use Rattle.brace_syntax.specs.declared.tree.ExprTree.TheOpen.{ExprTree-F, Lit, Name, OfThis, OfLoop, Unary, Binary, Choice}
 use Rattle.brace_syntax.specs.declared.tree.ExprTree.TheFolds.{fold-ExprTree}
 use Rattle.brace_syntax.specs.declared.tree.StmtTree.{StmtTree}
 use Rattle.brace_syntax.specs.declared.tree.StmtTree.TheOpen.{StmtTree-F, Const, If, Foreach, Assign, AssignThis, AssignLoop}
@@ -27,22 +27,18 @@ digits_are (Int z) = fits_word z
 digits_are (Fixed z) = fits_word z
 
 abbrev pub type_is : TyName → Bool
-type_is ty.Int = true
-type_is ty.Fixed = true
-type_is ty.Bool = true
 type_is (ty.Other name) = is_name name.text
+type_is _ = true
 
 abbrev pub expr_sound_step : ExprTree-F Bool → Bool
 expr_sound_step (Lit number) = digits_are number.digits
-expr_sound_step (True at) = true
-expr_sound_step (False at) = true
 expr_sound_step (Name name) = is_name name.text
 expr_sound_step (OfThis name at) = is_name name.text
 expr_sound_step (OfLoop loop name) = is_name loop.text && is_name name.text
 expr_sound_step (Unary op x at) = x
 expr_sound_step (Binary op x y at) = x && y
 expr_sound_step (Choice c x y at) = c && x && y
-expr_sound_step (Rand at) = true
+expr_sound_step _ = true
 
 abbrev pub expr_sound : ExprTree → Bool
 expr_sound = fold-ExprTree Bool expr_sound_step

@@ -9,7 +9,7 @@ use Rattle.std.proofs.lemmas.Option.{same_Some}
 use Rattle.std.proofs.lemmas.List.Elements.{All-head, All-rest}
 use Rattle.brace_num.specs.Names.{is_name}
 use Rattle.brace_tok.specs.Tables.{found, words, directives, symbols, reserved, directive, symbol}
-use Rattle.brace_tok.specs.Pieces.{Piece, blank, line_comment, block_comment, word, whole, fraction, hash, sign, open_comment, stray, bytes_of}
+use Rattle.brace_tok.specs.Pieces.{Piece, word, whole, fraction, hash, sign, bytes_of}
 use Rattle.brace_tok.specs.Roles.{Role, nothing, token, refused, role_at, token_or, name_or, word_kind, whole_kind, fixed_kind, millionths}
 use Rattle.brace_tok.specs.Spells.{token_at, tokens_from, Spells}
 use Rattle.brace_tok.specs.Names.{IsNamed, text_at}
@@ -78,9 +78,6 @@ guarded false kind h = refl
 
 role_at_fits : (from : ℕ) (p : Piece) → role_fits (role_at from p) ≡ true
 unfolding reserved directive symbol
-role_at_fits from (blank b) = refl
-role_at_fits from (line_comment body) = refl
-role_at_fits from (block_comment body) = refl
 role_at_fits from (word text) = said_fits (fault.LongWord from) (word_kind text) (guarded (nat_le (length text) 64) (name_or (found words text)) (λ h. name_fits (found words text) (table_fits words text refl)))
 role_at_fits from (whole text) = said_fits (fault.WideLiteral from) (whole_kind text) (guarded (nat_le (digits_value 10 text) 9223372036854775807) (k.Int (pos (digits_value 10 text))) (λ h. h))
 role_at_fits from (fraction text decimals) =
@@ -88,8 +85,7 @@ role_at_fits from (fraction text decimals) =
     said_fits (fault.WideLiteral from) (fixed_kind text decimals) (guarded (nat_le (length decimals) 6 && nat_le n 9223372036854775807) (k.Fixed (pos n)) (λ h. (and_parts (nat_le (length decimals) 6) (nat_le n 9223372036854775807) h).1))
 role_at_fits from (hash text) = said_fits (fault.BadByte from) (found directives text) (table_fits directives text refl)
 role_at_fits from (sign text) = said_fits (fault.BadByte from) (found symbols text) (table_fits symbols text refl)
-role_at_fits from (open_comment body) = refl
-role_at_fits from (stray b) = refl
+role_at_fits from _ = refl
 
 abbrev fits : Token → Bool
 fits tok = kind_fits tok.kind

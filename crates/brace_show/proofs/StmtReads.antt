@@ -9,7 +9,7 @@ use Rattle.brace_tok.specs.declared.kinds.Token.{Token}
 use Rattle.brace_tok.specs.declared.kinds.TokKind.TheVariants as k
 use Rattle.brace_syntax.specs.Tables.{Is, ident, type_name, type_at}
 use Rattle.brace_syntax.specs.Reads as g
-use Rattle.brace_syntax.specs.Reads.{ReadsExpr, ReadsStmt, ReadsStmts, ReadsBlock}
+use Rattle.brace_syntax.specs.Reads.{ReadsStmt, ReadsStmts, ReadsBlock}
 use Rattle.brace_syntax.specs.declared.tree.Ident.{Ident}
 use Rattle.brace_syntax.specs.declared.tree.TyName.{TyName}
 use Rattle.brace_syntax.specs.declared.tree.TyName.TheVariants as ty
@@ -86,9 +86,7 @@ value_then C x sound src toks l f =
 -- types
 pub type_word : (t : TyName) → type_row t ≡ letters (type_text t)
 type_word ty.Int = refl
-type_word ty.Fixed = refl
-type_word ty.Bool = refl
-type_word (ty.Other name) = refl
+type_word _ = refl
 
 pub say_type : (C : List Token → Type 0) (src : List ℕ) (t : TyName) (row : Row) (toks : List Token) → type_is t ≡ true → Laid src (word (type_text t) ∷ row) toks
     → ((tok : Token) (rest : List Token) (u : TyName) → type_name src tok ≡ Some u → type_at_0 t ≡ type_at_0 u → Laid src row rest → C (tok ∷ rest)) → C toks

@@ -44,16 +44,10 @@ tree_of p = p.0
 operands_same : (y : expr.ExprTree-F ((x : ExprTree) × Unplaced x))
     → map-ExprTree ExprTree Phrase phrase_of (map-ExprTree ExprTree ExprTree expr_at_0 (map-ExprTree ((x : ExprTree) × Unplaced x) ExprTree tree_of y))
     ≡ map-ExprTree ExprTree Phrase phrase_of (map-ExprTree ((x : ExprTree) × Unplaced x) ExprTree tree_of y)
-operands_same (expr.Lit n) = refl
-operands_same (expr.True at) = refl
-operands_same (expr.False at) = refl
-operands_same (expr.Name n) = refl
-operands_same (expr.OfThis n at) = refl
-operands_same (expr.OfLoop q n) = refl
 operands_same (expr.Unary op x at) = ap (λ v. expr.Unary op v at) x.1
 operands_same (expr.Binary op x y at) = rw (x.1, y.1) refl
 operands_same (expr.Choice c x y at) = rw (c.1, x.1, y.1) refl
-operands_same (expr.Rand at) = refl
+operands_same _ = refl
 
 phrase_same : (x : ExprTree) → phrase_of (expr_at_0 x) ≡ phrase_of x
 phrase_same = ind-ExprTree Unplaced (λ x y is.
@@ -66,9 +60,7 @@ expression_same x = ap (at_level 1) (phrase_same x)
 
 type_same : (type : TyName) → type_text (type_at_0 type) ≡ type_text type
 type_same ty.Int = refl
-type_same ty.Fixed = refl
-type_same ty.Bool = refl
-type_same (ty.Other name) = refl
+type_same _ = refl
 
 rule_same : (x : Option ExprTree) → rule (option_map expr_at_0 x) ≡ rule x
 rule_same None = refl
@@ -149,8 +141,6 @@ gift_same : (margin : List ℕ) (x : GiftTree) → gift_text margin (gift_at_0 x
 gift_same margin x = ap (λ t. line margin (x.state.text ++ codes " <- " ++ t ++ codes ";")) (expression_same x.value)
 
 member_same : (margin : List ℕ) (x : MemberTree) → member_text margin (member_at_0 x) ≡ member_text margin x
-member_same margin (m.Visible range at) = refl
-member_same margin (m.Reach range at) = refl
 member_same margin (m.State shared type name x at) =
     ap (λ t. line margin (sharing shared ++ codes " state " ++ t ++ codes " " ++ name.text ++ rule (option_map expr_at_0 x) ++ codes ";")) (type_same type)
     ∙ ap (λ t. line margin (sharing shared ++ codes " state " ++ type_text type ++ codes " " ++ name.text ++ t ++ codes ";")) (rule_same x)
@@ -162,6 +152,7 @@ member_same margin (m.Die x at) = ap (λ t. line margin (codes "die when " ++ t 
 member_same margin (m.Spawn x gifts at) =
     ap (λ t. line margin (codes "spawn when " ++ t ++ codes " {") ++ flat_map (gift_text (deeper margin)) (map gift_at_0 gifts) ++ line margin (codes "}")) (expression_same x)
     ∙ ap (λ t. line margin (codes "spawn when " ++ expression x ++ codes " {") ++ t ++ line margin (codes "}")) (flat_same (gift_text (deeper margin)) gift_at_0 (gift_same (deeper margin)) gifts)
+member_same margin _ = refl
 
 class_same : (class : ClassTree) → class_text (class_at_0 class) ≡ class_text class
 class_same class =

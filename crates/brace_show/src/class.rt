@@ -125,8 +125,7 @@ fn append_braced(
 {
     append_line(out, margin.as_slice(), head)?;
     append_block(out, margin, statements)?;
-    append_line(out, margin.as_slice(), b"}")?;
-    Ok(())
+    append_line(out, margin.as_slice(), b"}")
 }
 
 fn append_run(alloc: Global, out: &mut Vec<u8>, statements: &List<StmtTree>) -> Result<(), NoMemory>
@@ -176,8 +175,7 @@ fn append_spawn(out: &mut Vec<u8>, x: &ExprTree, gifts: &List<GiftTree>) -> Resu
 {
     append_birth(out, b"  ", x)?;
     append_gifts(out, gifts)?;
-    append_line(out, b"  ", b"}")?;
-    Ok(())
+    append_line(out, b"  ", b"}")
 }
 
 fn append_member(alloc: Global, out: &mut Vec<u8>, member: &MemberTree) -> Result<(), NoMemory>

@@ -165,7 +165,7 @@ fn append_statement(out: &mut Vec<u8>, margin: &mut Vec<u8>, s: &StmtTree) -> Re
     ensures margin { OnOk result (margin.new.items ≡ margin.old.items) }
 {
     match s {
-        StmtTree::Const(ty, name, x, _) => append_constant(out, margin.as_slice(), ty, name, x)?,
+        StmtTree::Const(ty, name, x, _) => append_constant(out, margin.as_slice(), ty, name, x),
         StmtTree::If(x, statements, other, _) => {
             append_condition(out, margin.as_slice(), x)?;
             append_block(out, margin, statements)?;
@@ -173,22 +173,21 @@ fn append_statement(out: &mut Vec<u8>, margin: &mut Vec<u8>, s: &StmtTree) -> Re
                 append_line(out, margin.as_slice(), b"} else {")?;
                 append_block(out, margin, statements)?;
             }
-            append_line(out, margin.as_slice(), b"}")?;
+            append_line(out, margin.as_slice(), b"}")
         }
         StmtTree::Foreach(class, variable, other, statements, _) => {
             append_loop(out, margin.as_slice(), class, variable, other)?;
             append_block(out, margin, statements)?;
-            append_line(out, margin.as_slice(), b"}")?;
+            append_line(out, margin.as_slice(), b"}")
         }
-        StmtTree::Assign(name, x) => append_assignment(out, margin.as_slice(), name, x)?,
+        StmtTree::Assign(name, x) => append_assignment(out, margin.as_slice(), name, x),
         StmtTree::AssignThis(name, x, _) => {
-            append_assignment_of(out, margin.as_slice(), b"this", name, x)?
+            append_assignment_of(out, margin.as_slice(), b"this", name, x)
         }
         StmtTree::AssignLoop(variable, name, x) => {
-            append_assignment_of(out, margin.as_slice(), variable.text.as_bytes(), name, x)?
+            append_assignment_of(out, margin.as_slice(), variable.text.as_bytes(), name, x)
         }
     }
-    Ok(())
 }
 
 /// Appends the statements of a block, two spaces behind the margin.

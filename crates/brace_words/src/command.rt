@@ -1,6 +1,6 @@
 ghost use Rattle.std.specs.Prelude.{◌≡◌, IfOk, false};
 ghost use Rattle.clap.specs.Walk.{rule_of};
-ghost use Rattle.clap.specs.Simple.{app_of};
+ghost use Rattle.clap.specs.Simple.{app_of, with_rule};
 ghost use Rattle.brace_words.specs.Command.{bare, brace, flag_rule, mode_rule, option_rule};
 
 use clap::{Arg, ArgAction, Command};
@@ -10,26 +10,59 @@ use std::alloc::{AllocError, Global};
 pub(crate) fn command<'a>(alloc: Global) -> Result<Command<'a>, AllocError>
     ensures { IfOk result (λ command. app_of command ≡ brace) }
 {
-    bare(alloc)
-        .arg(mode(alloc))?
-        .arg(option(alloc, "script"))?
-        .arg(option(alloc, "agents"))?
-        .arg(option(alloc, "from"))?
-        .arg(option(alloc, "ticks"))?
-        .arg(option(alloc, "count"))?
-        .arg(option(alloc, "seed"))?
-        .arg(option(alloc, "every"))?
-        .arg(option(alloc, "epoch"))?
-        .arg(option(alloc, "cuts"))?
-        .arg(option(alloc, "workers"))?
-        .arg(option(alloc, "order"))?
-        .arg(option(alloc, "save"))?
-        .arg(option(alloc, "link"))?
-        .arg(option(alloc, "published"))?
-        .arg(option(alloc, "watch"))?
-        .arg(option(alloc, "strips"))?
+    let command = bare(alloc).arg(mode(alloc))?;
+    let command = with_four(alloc, command, "script", "agents", "from", "ticks")?;
+    let command = with_four(alloc, command, "count", "seed", "every", "epoch")?;
+    let command = with_four(alloc, command, "cuts", "workers", "order", "save")?;
+    let command = with_four(alloc, command, "link", "published", "watch", "strips")?;
+    command
         .arg(flag(alloc, "invert"))?
         .arg(flag(alloc, "stats"))
+}
+
+// The command with an option more.
+fn with_option<'a>(
+    alloc: Global,
+    command: Command<'a>,
+    name: &'a str,
+) -> Result<Command<'a>, AllocError>
+    ensures { IfOk result (λ more.
+        app_of more ≡ with_rule (app_of command.entry) (option_rule name.entry.now)) }
+{
+    command.arg(option(alloc, name))
+}
+
+// The command with two options more.
+fn with_two<'a>(
+    alloc: Global,
+    command: Command<'a>,
+    first: &'a str,
+    second: &'a str,
+) -> Result<Command<'a>, AllocError>
+    ensures { IfOk result (λ more. app_of more
+        ≡ with_rule (with_rule (app_of command.entry) (option_rule first.entry.now))
+        (option_rule second.entry.now)) }
+{
+    let one = with_option(alloc, command, first)?;
+    with_option(alloc, one, second)
+}
+
+// The command with four options more.
+fn with_four<'a>(
+    alloc: Global,
+    command: Command<'a>,
+    first: &'a str,
+    second: &'a str,
+    third: &'a str,
+    fourth: &'a str,
+) -> Result<Command<'a>, AllocError>
+    ensures { IfOk result (λ more. app_of more
+        ≡ with_rule (with_rule (with_rule (with_rule (app_of command.entry)
+        (option_rule first.entry.now)) (option_rule second.entry.now))
+        (option_rule third.entry.now)) (option_rule fourth.entry.now)) }
+{
+    let two = with_two(alloc, command, first, second)?;
+    with_two(alloc, two, third, fourth)
 }
 
 // A command that takes no program's name among its words, and has no help and no version flag.

@@ -1,6 +1,6 @@
 ghost use Rattle.std.specs.Prelude.{◌≡◌};
 ghost use Rattle.brace_words.specs.Options.{are_apart, has_its_options, links_one_worker, takes};
-ghost use Rattle.brace_words.specs.inner.Bare.{is_bare, is_unworked};
+ghost use Rattle.brace_words.specs.inner.Bare.{is_bare, is_runless, is_unworked};
 
 use crate::{Line, Mode};
 use brace_num::Text;
@@ -67,12 +67,7 @@ fn has_its_options(line: &Line) -> bool
         Mode::Balance => {
             line.script.is_some()
                 && line.agents.is_some()
-                && line.from.is_none()
-                && line.ticks.is_none()
-                && line.count.is_none()
-                && line.seed.is_none()
-                && line.every.is_none()
-                && line.published.is_none()
+                && is_runless(line)
                 && line.strips.is_some()
                 && !line.invert
                 && is_unworked(line)
@@ -101,15 +96,19 @@ fn are_apart(a: &Option<Text>, b: &Option<Text>) -> bool
 fn is_bare(line: &Line) -> bool
     ensures { result ≡ is_bare line.now }
 {
-    line.agents.is_none()
-        && line.from.is_none()
+    line.agents.is_none() && is_runless(line) && line.strips.is_none() && is_unworked(line)
+}
+
+// Whether nothing is said of a run: where it begins, how far it goes, what is published of it.
+fn is_runless(line: &Line) -> bool
+    ensures { result ≡ is_runless line.now }
+{
+    line.from.is_none()
         && line.ticks.is_none()
         && line.count.is_none()
         && line.seed.is_none()
         && line.every.is_none()
         && line.published.is_none()
-        && line.strips.is_none()
-        && is_unworked(line)
 }
 
 // Whether nothing is said of how a run is worked.

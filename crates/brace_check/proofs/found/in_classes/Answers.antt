@@ -1,7 +1,7 @@
 use Rattle.std.proofs.Common.{◌∙◌}
 use Rattle.brace_check.specs.Found.{member}
 use Rattle.brace_names.proofs.StmtLemmas.{class_more}
-use Rattle.brace_check.proofs.found.found.Goals as goal
+use Rattle.brace_check.proofs.found.in_classes.Goals as goal
 
 pub loop-one-preserved : goal.loop-one-preserved
 loop-one-preserved c =

@@ -1,8 +1,0 @@
-use Rattle.std.proofs.Common.{◌≡◌, drop}
-use Rattle.brace_check.specs.Programs.{shares, shared_by}
-use Rattle.brace_check.proofs.share.shares.Given as goal
-
-abbrev pub invariant-loop-one : goal.invariant-loop-one
-invariant-loop-one l =
-    ((shares l.home (drop l.one-index l.class.members) l.sites.items).1 ≡ (shares l.home l.class.members l.fn.sites.items).1)
-    × (shared_by l.all (shares l.home (drop l.one-index l.class.members) l.sites.items).0 ≡ (shares l.home l.class.members l.fn.sites.items).0)
