@@ -10,7 +10,7 @@ use Rattle.std.proofs.lemmas.List.Sums.{fold-append}
 use Rattle.std.proofs.lemmas.List.Sorted.{IsPermutation-append_comm}
 use Rattle.std.proofs.Math.Seq.{take-suc}
 use Rattle.brace_model.specs.declared.program.Value.{Value}
-use Rattle.brace_model.specs.declared.program.Value.TheVariants.{Int, Fixed, Flag}
+use Rattle.brace_model.specs.declared.program.Value.TheVariants.{Flag}
 use Rattle.brace_model.specs.declared.program.Program.{Program}
 use Rattle.brace_model.specs.declared.fault.Fault.{Fault}
 use Rattle.brace_model.specs.declared.world.Agent.{Agent}
@@ -283,13 +283,9 @@ if_ok (Err e) P Q f h = h
 
 -- a value chooses by whether it is true
 pub chosen-first : (v : Value) (a b : Deed) → is_true v ≡ true → chosen v a b ≡ a
-chosen-first (Int n) a b e = absurd (cc)
-chosen-first (Fixed n) a b e = absurd (cc)
 chosen-first (Flag true) a b e = refl
-chosen-first (Flag false) a b e = absurd (cc)
+chosen-first _ a b e = absurd (cc)
 
 pub chosen-second : (v : Value) (a b : Deed) → is_true v ≡ false → chosen v a b ≡ b
-chosen-second (Int n) a b e = refl
-chosen-second (Fixed n) a b e = refl
 chosen-second (Flag true) a b e = absurd (cc)
-chosen-second (Flag false) a b e = refl
+chosen-second _ a b e = refl

@@ -4,7 +4,7 @@ use Rattle.std.specs.Prelude.{leb, ◌||◌, take, slice_get, option_map}
 use Rattle.std.specs.Option.{option_and_then}
 use Rattle.std.specs.Result.{result_ok, result_err}
 use Rattle.std.specs.List.{range_with_len, find}
-use Rattle.std.proofs.lemmas.Option.{slice_get-get_or}
+use Rattle.std.proofs.lemmas.Option.{slice_get-get_or, same_Some}
 use Rattle.brace_model.specs.declared.program.Program.{Program}
 use Rattle.brace_model.specs.declared.fault.Fault.{Fault}
 use Rattle.brace_model.specs.declared.world.Agent.{Agent}
@@ -13,7 +13,6 @@ use Rattle.brace_model.specs.FaultOrder.{least}
 use Rattle.brace_model.specs.Query.{query_faults}
 use Rattle.brace_model.specs.Step.{step, all_next, living, children, goes_too_far, first_too_far, birth_fault, grown, unless_faulty, most_agents, most_values, greatest_id, count_values}
 use Rattle.brace_eval.proofs.NumberLemmas.{numbered_grown}
-use Rattle.std.proofs.lemmas.Option.{same_Some}
 
 abbrev pub stepped : World → Result World Fault
 stepped w = Ok w

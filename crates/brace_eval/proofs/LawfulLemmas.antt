@@ -33,16 +33,14 @@ use Rattle.brace_model.specs.Typed.{Fits}
 use Rattle.brace_model.proofs.TypeLemmas.{passed, only_same, one_type, IsOf, just, sound}
 use Rattle.brace_eval.proofs.NumberLemmas.{ok, same-next, not-both, none-some}
 use Rattle.brace_eval.proofs.LawLemmas.{stepped, stepped-ok, unmapped, keeps-limits, last-fits}
-use Rattle.std.proofs.lemmas.Bool.{and_from}
-use Rattle.std.proofs.lemmas.Bool.{and_parts}
+use Rattle.std.proofs.lemmas.Bool.{and_from, and_parts}
 use Rattle.std.proofs.lemmas.Option.{same_Some}
 
 -- ---- tests
 
 own_type : (t : Ty) → same_type t t ≡ true
 own_type ty.Int = refl
-own_type ty.Fixed = refl
-own_type ty.Bool = refl
+own_type _ = refl
 
 of_type : (t : Ty) (o : Option Ty) → is_of_type t o ≡ true → o ≡ Some t
 of_type t None e = absurd (cc)

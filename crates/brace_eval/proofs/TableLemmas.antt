@@ -1,11 +1,10 @@
 -- The table of totals after one saying more.
 use Rattle.std.proofs.Common.{◌≡◌, ◌∙◌, sym, refl, ap, subst, ℕ, zero, suc, ◌+◌, ◌-◌, ◌<◌, ◌≤◌, ℤ, pos, List, [], ◌∷◌, ◌++◌, true, false, Bool, length, take, get_or, set, map, Some, None, Ok, Err, arith, add-one, flat_map}
-use Rattle.std.specs.Prelude.{◌==◌, ◌&&◌, slice_get}
+use Rattle.std.specs.Prelude.{◌==◌, ◌&&◌, slice_get, eqb, leb}
 use Rattle.std.specs.List.Sorted.{IsBinarySearchResult}
 use Rattle.std.specs.Ordering.{nat_cmp}
 use Rattle.std.proofs.lemmas.List.Sorted.{searched}
 use Rattle.std.proofs.Math.Nat.{eq-or-lt_of_le}
-use Rattle.std.specs.Prelude.{eqb, leb}
 use Rattle.std.proofs.lemmas.Option.{slice_get_read, slice_get_past, slice_get_within, get_or_from_slice_get}
 use Rattle.std.proofs.lemmas.Bool.{ne_eqb, eq-eqb}
 use Rattle.std.proofs.lemmas.Bool.Decides.{eqb_tells, leb_tells}
@@ -297,6 +296,17 @@ effects-at program agents place a x effects is found of =
     let (le, id, here) = stands-at agents place a is in
     let same : x ≡ a = let both = sym found ∙ is in cc in
     ap (λ (b : Agent). effects_in (class_of program b)) (here ∙ sym same) ∙ sym of
+
+-- an effect of the agent that was read at a place
+pub effect-at : (program : Program) (agents : List Agent) (place field : ℕ) (a x : Agent)
+    (effects : List Effect) → slice_get agents place ≡ Some a
+    → true ≡ leb (suc place) (length agents) → x ≡ get_or agents place x
+    → effects ≡ effects_in (class_of program x)
+    → slice_get (effects_in (class_of program (get_or agents place a))) field
+    ≡ slice_get effects field
+effect-at program agents place field a x effects is low read of =
+    ap (λ (l : List Effect). slice_get l field)
+    (effects-at program agents place a x effects is (item-some agents place x low read) of)
 
 -- where an id stands, an agent has it
 pub stands-one : (agents : List Agent) (place id : ℕ) → place < length agents → get_or (ids agents) place 0 ≡ id

@@ -1,7 +1,7 @@
 -- What outcomes come to, one after another: their values, and the stop of the least site.
 use Rattle.std.proofs.Common.{◌≡◌, ◌∙◌, sym, ap, subst, refl, ℕ, ℤ, ◌+◌, ◌<◌, ◌≤◌, List, [], ◌∷◌, ◌++◌, length, take, get_or, map, filter_map, zip, Option, Some, None, Result, Ok, Err, arith, add-one, min, append_assoc}
 use Rattle.std.specs.Result.{result_ok, result_err}
-use Rattle.std.specs.List.{reduce, fold}
+use Rattle.std.specs.List.{reduce}
 use Rattle.std.proofs.lemmas.Slice.Zip.{get_or-zip, length-zip}
 use Rattle.std.proofs.lemmas.List.{take_all, map-append, append-nil}
 use Rattle.std.proofs.lemmas.List.Elements.{filter_map-append}
@@ -9,17 +9,16 @@ use Rattle.std.proofs.lemmas.List.Sums.{fold-append}
 use Rattle.std.proofs.Math.Seq.{take-suc}
 use Rattle.brace_model.specs.declared.program.Value.{Value}
 use Rattle.brace_model.specs.declared.fault.Stop.{Stop}
-use Rattle.std.specs.Prelude.{option_copied}
+use Rattle.std.specs.Prelude.{option_copied, if◌then◌else◌}
 use Rattle.brace_model.specs.declared.job.Env.{Env}
 use Rattle.brace_model.specs.Value.{Worth, Scope}
-use Rattle.std.specs.Prelude.{if◌then◌else◌}
 use Rattle.brace_model.specs.declared.program.Class.{Class}
 use Rattle.brace_model.specs.declared.program.State.{State}
 use Rattle.brace_model.specs.declared.fault.Fault.{Fault}
 use Rattle.brace_model.specs.declared.world.Agent.{Agent}
 use Rattle.brace_model.specs.Query.{opening_scope}
-use Rattle.brace_model.specs.Next.{Next, earlier_stop, first_stop, values_of, rules_in, condition_in, spawns_in, gifts_in, update_in, update_fault, unless_stopped, left_by, next_of, holds, changed, child_in}
-use Rattle.brace_eval.specs.inner.Updates.{with_one, with_stop, Meets, worths}
+use Rattle.brace_model.specs.Next.{Next, earlier_stop, with_stop, first_stop, values_of, rules_in, condition_in, spawns_in, gifts_in, update_in, update_fault, unless_stopped, left_by, next_of, holds, changed, child_in}
+use Rattle.brace_eval.specs.inner.Updates.{with_one, Meets, worths}
 
 -- the pair at a place, and one pair more
 pub zip-more : {A B C : Type 0} (f : A × B → C) (xs : List A) (ys : List B) (i : ℕ) (x : A) (y : B) → i < length xs → i < length ys
@@ -64,26 +63,9 @@ pub meets-err : (stop : Stop) (first : Option Stop) → Meets (Err stop ∷ []) 
 meets-err stop first met is =
     ap (λ (o : Option Stop). Some (with_stop o stop)) is ∙ sym (stop-err met stop)
 
-pub meets-none : (first : Option Stop) → Meets [] first first
-meets-none first met is = is ∙ ap first_stop (sym (append-nil met))
-
 pub meets-then : (xs ys : List Worth) (a b c : Option Stop) → Meets xs a b → Meets ys b c → Meets (xs ++ ys) a c
 meets-then xs ys a b c first second met is =
     second (met ++ xs) (first met is) ∙ ap first_stop (append_assoc met xs ys)
-
--- one pair more is folded in
-pub zip-fold : {A B S : Type 0} (f : S → A × B → S) (s : S) (xs : List A) (ys : List B) (i : ℕ) (x : A) (y : B) → i < length xs → i < length ys
-    → fold f s (take (i + 1) (zip xs ys)) ≡ f (fold f s (take i (zip xs ys))) (get_or xs i x, get_or ys i y)
-zip-fold f s xs ys i x y a b =
-    let within : i < length (zip xs ys) = rw (length-zip xs ys) (omega arith) in
-    let front : take (i + 1) (zip xs ys) ≡ take i (zip xs ys) ++ get_or (zip xs ys) i (x, y) ∷ [] =
-    ap (λ (n : ℕ). take n (zip xs ys)) (add-one i) ∙ take-suc (zip xs ys) i (x, y) within in
-    ap (fold f s) front ∙ fold-append f s (take i (zip xs ys)) _
-    ∙ ap (f (fold f s (take i (zip xs ys)))) (get_or-zip xs ys i (x, y) a b)
-
-pub zip-fold-all : {A B S : Type 0} (f : S → A × B → S) (s : S) (xs : List A) (ys : List B) (i : ℕ) → min (length xs) (length ys) ≤ i
-    → fold f s (take i (zip xs ys)) ≡ fold f s (zip xs ys)
-zip-fold-all f s xs ys i le = ap (fold f s) (take_all i (zip xs ys) (rw (length-zip xs ys) le))
 
 -- the scope of an environment, by the seed alone
 abbrev pub scope_from : Env → ℕ → Scope

@@ -1,22 +1,11 @@
 ghost use Rattle.std.specs.Prelude.{◌≡◌, ◌≤◌, ◌^◌};
 ghost use Rattle.brace_model.specs.World.{value_at};
-ghost use Rattle.brace_model.specs.Value.{agent_of, value, choose};
+ghost use Rattle.brace_model.specs.Value.{value};
 ghost use Rattle.brace_model.specs.Scopes.{scope_of};
 
 use crate::operations::{strict, total_read, unary};
 use brace_draw::Drawer;
-use brace_model::{Agent, BinOp, Env, Expr, Stop, Value, Who, value_at};
-
-/// The agent that a name stands for.
-fn agent_of<'a>(env: &Env<'a>, drawer: &Drawer, who: Who) -> &'a Agent
-    ensures { result.now ≡ agent_of (scope_of env.now drawer.now) who }
-{
-    match who {
-        Who::This => env.this,
-        Who::Outer => env.outer.unwrap_or(env.this),
-        Who::Inner => env.inner.unwrap_or(env.this),
-    }
-}
+use brace_model::{BinOp, Env, Expr, Stop, Value, agent_of, value_at};
 
 /// The value of an expression, or the first fault met from left to right: its site and its kind. It
 /// takes no memory.

@@ -1,4 +1,4 @@
-ghost use Rattle.std.specs.Prelude.{◌≡◌, ◌+◌, ◌-◌, ◌^◌, ℕ, List, [], ◌∷◌, ◌++◌, length, min, slice_get, slice_set, slice_index_or, pos, ◌+ℤ◌, IfOk, OnOk, Some, map, take, drop};
+ghost use Rattle.std.specs.Prelude.{◌≡◌, ◌+◌, ◌-◌, ◌^◌, List, [], ◌∷◌, ◌++◌, min, slice_get, slice_set, slice_index_or, pos, ◌+ℤ◌, IfOk, OnOk, Some, map, take, drop};
 ghost use Rattle.brace_model.specs.declared.fault.Fault.{Fault};
 ghost use Rattle.brace_model.specs.declared.program.Program.{Program};
 ghost use Rattle.brace_model.specs.declared.world.Agent.{Agent};
@@ -9,9 +9,8 @@ ghost use Rattle.brace_model.specs.Total.{identity, joined};
 ghost use Rattle.brace_comb.specs.Totals.{merged};
 ghost use Rattle.brace_eval.specs.Heard.{IsHeard, AreTold, counting, effects_in, row_of};
 
-use crate::ledger::with_earlier;
 use brace_comb::{identity, joined, merged};
-use brace_model::{Agent, Comb, Effect, Fault, Program, Value, class_of};
+use brace_model::{Agent, Comb, Effect, Fault, Program, Value, class_of, with_earlier};
 use brace_num::NoMemory;
 use std::alloc::Global;
 

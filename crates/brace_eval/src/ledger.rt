@@ -1,13 +1,11 @@
 ghost use Rattle.std.specs.Prelude.{◌≡◌, ◌∷◌, [], IfOk};
-ghost use Rattle.brace_model.specs.FaultOrder.{with_earlier};
-ghost use Rattle.brace_model.specs.Query.{Saying};
 ghost use Rattle.brace_eval.specs.declared.scene.Scene.{Scene};
 ghost use Rattle.brace_eval.specs.inner.Tables.{IsScene, Notes};
 
 use crate::heard::Heard;
 use crate::scene::Scene;
 use brace_draw::Drawer;
-use brace_model::{Fault, Value, earlier};
+use brace_model::{Fault, Value, with_earlier};
 use brace_num::NoMemory;
 
 /// What was said and what faulted so far in a tick, and the draws of the tick.
@@ -15,16 +13,6 @@ use brace_num::NoMemory;
 pub struct Ledger {
     pub heard: Heard,
     pub drawer: Drawer,
-}
-
-/// The earlier of a fault and one that was found before it, if any was.
-pub fn with_earlier(found: Option<Fault>, fault: Fault) -> Fault
-    ensures { result ≡ with_earlier found fault }
-{
-    match found {
-        None => fault,
-        Some(found) => earlier(found, fault),
-    }
 }
 
 impl Ledger {

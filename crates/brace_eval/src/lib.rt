@@ -19,6 +19,5 @@ pub use births::{birth_fault, is_too_far};
 pub use expression::eval;
 pub use fault::StepFault;
 pub use heard::{Heard, effects_of};
-pub use ledger::with_earlier;
 pub use step::plain_step;
-pub use update::{Left, left_by};
+pub use update::left_by;

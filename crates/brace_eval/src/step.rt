@@ -1,4 +1,4 @@
-ghost use Rattle.std.specs.Prelude.{◌≡◌, ◌≤◌, ◌^◌, [], filter_map, IfOk, IfErr, Ok, Err, Some, None};
+ghost use Rattle.std.specs.Prelude.{◌≡◌, ◌≤◌, ◌^◌, filter_map, IfOk, IfErr, Ok, Err, Some, None};
 ghost use Rattle.std.specs.Result.{result_ok, result_err};
 ghost use Rattle.brace_model.specs.FaultOrder.{least};
 ghost use Rattle.brace_model.specs.Lawful.{LawfulProgram};
@@ -11,10 +11,9 @@ ghost use Rattle.brace_eval.specs.inner.Updates.{with_one};
 use crate::births::{birth_fault, first_too_far, grown};
 use crate::fault::StepFault;
 use crate::heard::{Heard, effects_of};
-use crate::ledger::with_earlier;
-use crate::update::{Left, left_by};
+use crate::update::left_by;
 use brace_draw::Drawer;
-use brace_model::{Agent, Fault, Job, Parent, Program, World};
+use brace_model::{Agent, Fault, Job, Left, Parent, Program, World, with_earlier};
 use brace_num::NoMemory;
 use std::alloc::Global;
 

@@ -1,40 +1,22 @@
-ghost use Rattle.std.specs.Prelude.{◌≡◌, ◌≤◌, ◌^◌, ◌∷◌, [], pos, ◌≤ℤ◌, IfOk, IfErr, Ok, Err, Some, None, slice_set, if◌then◌else◌};
+ghost use Rattle.std.specs.Prelude.{◌≡◌, ◌≤◌, ◌^◌, ◌∷◌, [], pos, ◌≤ℤ◌, IfOk, IfErr, Ok, Err, Some};
 ghost use Rattle.std.specs.Result.{result_ok};
 ghost use Rattle.brace_model.specs.World.{class_of};
 ghost use Rattle.brace_model.specs.Lawful.{LawfulProgram};
 ghost use Rattle.brace_model.specs.Value.{value};
-ghost use Rattle.brace_model.specs.Next.{ruled, condition_in, holds, spawns_in, gifts_in, rules_in, moved, changed, with_gifts, child_in, values_of, update_fault, next_in};
+ghost use Rattle.brace_model.specs.Next.{ruled, condition_in, holds, spawns_in, gifts_in, child_in, values_of, next_in};
 ghost use Rattle.brace_model.specs.Scopes.{scope_of};
-ghost use Rattle.brace_eval.specs.inner.Updates.{with_one, with_stop, worths, gift_worths, Meets};
+ghost use Rattle.brace_eval.specs.inner.Updates.{with_one, worths, gift_worths, Meets};
 
 use crate::expression::eval;
 use crate::fault::StepFault;
 use crate::seat::is_true;
 use brace_draw::Drawer;
 use brace_model::{
-    Agent, Class, Env, Expr, Fault, Gift, Phase, Program, State, Stop, Value, class_of, number,
-    value_at,
+    Agent, Class, Env, Expr, Fault, Gift, Left, Program, State, Stop, Value, child_with, class_of,
+    survivor, update_fault, with_stop,
 };
-use brace_num::{List, NoMemory, clamp};
+use brace_num::NoMemory;
 use std::alloc::Global;
-
-/// What an agent leaves to the next world: itself, unless it dies, and its child, where it has one.
-/// A child bears its parent's id until it gets an id of its own.
-#[derive(Debug, Drop)]
-pub struct Left {
-    pub agent: Option<Agent>,
-    pub child: Option<Agent>,
-}
-
-/// The stop of the lesser site: of one, and of one that was met before it, if any was.
-fn with_earlier_stop(met: Option<Stop>, stop: Stop) -> Stop
-    ensures { result ≡ with_stop met stop }
-{
-    match met {
-        None => stop,
-        Some(met) => { if stop.site < met.site { stop } else { met } }
-    }
-}
 
 /// The value of an outcome; a stop is kept where it has the least site.
 fn kept(first: &mut Option<Stop>, outcome: Result<Value, Stop>) -> Option<Value>
@@ -44,7 +26,7 @@ fn kept(first: &mut Option<Stop>, outcome: Result<Value, Stop>) -> Option<Value>
     match outcome {
         Ok(v) => Some(v),
         Err(stop) => {
-            *first = Some(with_earlier_stop(*first, stop));
+            *first = Some(with_stop(*first, stop));
             None
         }
     }
@@ -144,75 +126,6 @@ fn is_held(first: &mut Option<Stop>, outcome: Result<Value, Stop>) -> bool
     }
 }
 
-/// A coordinate's new value, moved into reach of its old one.
-fn move_within(new: &mut [Value], old: &[Value], place: u32, reach: i64)
-    requires { pos 0 ≤ℤ reach }
-    ensures { new.new ≡ moved reach old.now place new.old }
-{
-    let at = place as usize;
-    if at < new.len() {
-        new[at] = Value::Fixed(clamp(
-            number(value_at(old, place)),
-            number(value_at(new, place)),
-            reach,
-        ));
-    }
-}
-
-/// An agent of a class with other states, both coordinates moved into reach.
-fn updated(a: &Agent, class: &Class, mut new: Vec<Value>) -> Agent
-    requires { pos 0 ≤ℤ class.now.reach }
-    ensures { result ≡ changed class.now a.now new.items }
-{
-    let old = a.states.as_slice();
-    move_within(&mut new, old, class.x, class.reach);
-    move_within(&mut new, old, class.y, class.reach);
-    Agent {
-        class: a.class,
-        id: a.id,
-        states: List::from_vec(new),
-    }
-}
-
-/// An agent of a class with its new states, unless it dies.
-fn survivor(dies: bool, a: &Agent, class: &Class, new: Vec<Value>) -> Option<Agent>
-    requires { pos 0 ≤ℤ class.now.reach }
-    ensures { result ≡ (if dies then None else Some (changed class.now a.now new.items)) }
-{
-    if dies {
-        return None;
-    }
-    Some(updated(a, class, new))
-}
-
-/// Puts a value in the place of a state, where there is one.
-fn put(states: &mut [Value], place: u32, v: Value)
-    ensures { states.new ≡ slice_set states.old place v }
-{
-    let at = place as usize;
-    if at < states.len() {
-        states[at] = v;
-    }
-}
-
-/// Puts gifts in the places of some states.
-fn give(states: &mut [Value], gifts: &[Gift], given: &[Value])
-    ensures { states.new ≡ with_gifts states.old gifts.now given.now }
-{
-    for i in 0..gifts.len().min(given.len()) {
-        put(states, gifts[i].state, given[i]);
-    }
-}
-
-/// Values equal to these.
-fn copied(alloc: Global, values: &[Value]) -> Result<Vec<Value>, NoMemory>
-    ensures { IfOk result (λ copy. copy.items ≡ values.now) }
-{
-    let mut copy = Vec::with_capacity(alloc, values.len())?;
-    copy.extend_from_slice(values)?;
-    Ok(copy)
-}
-
 /// The child of an agent of a class, where it has one.
 fn child(
     alloc: Global,
@@ -238,9 +151,8 @@ fn child(
         return Ok(None);
     }
     let given = gifts(alloc, spawn.gifts.as_slice(), env, drawer, first)?;
-    let mut states = copied(alloc, a.states.as_slice())?;
-    give(&mut states, spawn.gifts.as_slice(), &given);
-    Ok(Some(updated(a, class, states)))
+    let child = child_with(alloc, class, a, spawn.gifts.as_slice(), &given)?;
+    Ok(Some(child))
 }
 
 /// What an agent of a class leaves, with its own totals, or the fault of its update.
@@ -280,21 +192,6 @@ fn left_of_class<'a>(
             agent: survivor(dies, a, class, new),
             child,
         }),
-    }
-}
-
-/// The fault of an agent's update.
-fn update_fault(tick: u64, a: &Agent, stop: Stop) -> Fault
-    ensures { result ≡ update_fault tick a.now stop }
-{
-    Fault {
-        tick,
-        phase: Phase::Update,
-        agent: a.id,
-        site: stop.site,
-        outer: None,
-        inner: None,
-        kind: stop.kind,
     }
 }
 

@@ -49,11 +49,6 @@ grown d next g h = by_stop (Contains (followed_by d next).faults g) d
     (λ stopped. subst (λ x. Contains x.faults g) (sym (stops_at d next stopped)) h)
     (λ on. subst (λ x. Contains x.faults g) (sym (goes_to d next on)) (Contains-append_left d.faults (next d.scope).faults g h))
 
--- what is said and found is one thing where a value is there, and another where it faults
-pub by_worth : (P : Deed → Type 0) (scope : Scope) (v : Worth) (next : Value → Deed) → ((x : Value) → v ≡ Ok x → P (next x)) → ((d : Deed) → P d) → P (deed_of scope v next)
-by_worth P scope (Ok x) next h g = h x refl
-by_worth P scope (Err stop) next h g = g _
-
 pub by_choice : (P : Deed → Type 0) (v : Value) (a d : Deed) → P a → P d → P (chosen v a d)
 by_choice P (Flag true) a d ha hd = ha
 by_choice P (Flag false) a d ha hd = hd

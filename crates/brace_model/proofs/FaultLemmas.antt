@@ -40,17 +40,15 @@ before_itself a = ap is_lt (tied_itself compared_total a)
 
 less : (r : Ordering) → IsTrue (is_lt r) → r ≡ Less
 less Less t = refl
-less Equal t = absurd (cc)
-less Greater t = absurd (cc)
+less _ t = absurd (cc)
 
 pub before_in_turn : (a b c : Fault) → IsTrue (comes_before a b) → IsTrue (comes_before b c) → IsTrue (comes_before a c)
 before_in_turn a b c p q = ap is_lt (compared_total.trans a b c (less (compared a b) p) (less (compared b c) q))
 
 -- two parts of a comparison that ends equal are equal
 both_equal : (p q : Ordering) → ordering_then p q ≡ Equal → (p ≡ Equal) × (q ≡ Equal)
-both_equal Less q e = absurd (cc)
 both_equal Equal q e = (refl, e)
-both_equal Greater q e = absurd (cc)
+both_equal _ q e = absurd (cc)
 
 equal_options : (p q : Option ℕ) → option_cmp nat_cmp p q ≡ Equal → p ≡ q
 equal_options None None e = refl
@@ -66,8 +64,7 @@ phase_of (suc (suc n)) = Birth
 
 phase_back : (p : Phase) → phase_of (phase_rank p) ≡ p
 phase_back Query = refl
-phase_back Update = refl
-phase_back Birth = refl
+phase_back _ = refl
 
 equal_phases : (p q : Phase) → phase_rank p ≡ phase_rank q → p ≡ q
 equal_phases p q e = sym (phase_back p) ∙ ap phase_of e ∙ phase_back q
@@ -80,9 +77,7 @@ kind_of (suc (suc (suc n))) = TooMany
 
 kind_back : (k : Kind) → kind_of (kind_rank k) ≡ k
 kind_back Overflow = refl
-kind_back DivZero = refl
-kind_back NegRoot = refl
-kind_back TooMany = refl
+kind_back _ = refl
 
 equal_kinds : (p q : Kind) → kind_rank p ≡ kind_rank q → p ≡ q
 equal_kinds p q e = sym (kind_back p) ∙ ap kind_of e ∙ kind_back q

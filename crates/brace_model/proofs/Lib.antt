@@ -3,6 +3,7 @@ pub mod Blocks
 pub mod Deeds
 pub mod FaultLemmas
 pub mod Folds
+pub mod Gifts
 pub mod LawEquations
 mod LawfulExamples
 mod LifeExamples

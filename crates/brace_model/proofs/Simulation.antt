@@ -6,7 +6,7 @@ use Rattle.std.proofs.lemmas.List.Elements.{Contains-append_right}
 use Rattle.std.proofs.lemmas.List.Folds.{flat_map-map}
 use Rattle.brace_model.specs.declared.program.Who.{Who}
 use Rattle.brace_model.specs.declared.program.Value.{Value}
-use Rattle.brace_model.specs.declared.program.Value.TheVariants.{Int, Fixed, Flag}
+use Rattle.brace_model.specs.declared.program.Value.TheVariants.{Flag}
 use Rattle.brace_model.specs.declared.program.Expr.{Expr}
 use Rattle.brace_model.specs.declared.program.Stmt.{Stmt}
 use Rattle.brace_model.specs.declared.program.Stmt.TheVariants.{Const, If, Foreach, Assign}
@@ -128,9 +128,7 @@ module _ (T : Tie) (tie : IsTie T) where
 
   tied_chosen : (scope : Scope) (v : Value) (a d pa pd : Deed) → Tied T a pa → Tied T d pd → Tied T (closed scope (chosen v a d)) (closed scope (chosen v pa pd))
   tied_chosen scope (Flag true) a d pa pd ha hd = record { stopped = ha.stopped; scope = refl; tie = ha.tie }
-  tied_chosen scope (Flag false) a d pa pd ha hd = record { stopped = hd.stopped; scope = refl; tie = hd.tie }
-  tied_chosen scope (Int n) a d pa pd ha hd = record { stopped = hd.stopped; scope = refl; tie = hd.tie }
-  tied_chosen scope (Fixed n) a d pa pd ha hd = record { stopped = hd.stopped; scope = refl; tie = hd.tie }
+  tied_chosen scope _ a d pa pd ha hd = record { stopped = hd.stopped; scope = refl; tie = hd.tie }
 
   pub tied_loop : (scope : Scope) (f g : Agent → Deed) (xs ys : List Agent) → Over T f xs g ys → Tied T (iterated scope (map f xs)) (iterated scope (map g ys))
   tied_loop scope f g xs ys h = record {

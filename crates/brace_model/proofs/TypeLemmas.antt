@@ -94,13 +94,11 @@ just u v t e is = ap type_of_value (sym (ok_is u v e)) ∙ is
 
 typed_is : (t : Ty) (n : ℤ) → type_of_value (typed t n) ≡ t
 typed_is ty.Int n = refl
-typed_is ty.Fixed n = refl
-typed_is ty.Bool n = refl
+typed_is _ n = refl
 
 like_is : (u : Value) (n : ℤ) → is_number (type_of_value u) ≡ true → type_of_value (like u n) ≡ type_of_value u
-like_is (Int m) n e = refl
-like_is (Fixed m) n e = refl
 like_is (Flag b) n e = absurd (cc)
+like_is _ n e = refl
 
 made_is : (f : ℤ → Value) (t : Ty) (site : Option ℕ) (r : Result ℤ Kind) → ((n : ℤ) → type_of_value (f n) ≡ t) → IsOf t (made f site r)
 made_is f t site (Ok n) is v e = just (f n) v t e (is n)
@@ -121,25 +119,19 @@ total_is t None n v e = just _ v t e (typed_is t _)
 total_is t (Some site) n v e = made_is (typed t) t (Some site) (fitting n) (typed_is t) v e
 
 unary_is : (op : UnOp) (site : Option ℕ) (u : Value) (t : Ty) → unary_type op (type_of_value u) ≡ Some t → IsOf t (unary op site u)
-unary_is un.Neg site u t e v came = made_like_is u t site _ e v came
-unary_is un.Abs site u t e v came = made_like_is u t site _ e v came
 unary_is un.Not site u t e v came = just _ v t came (only_same _ ty.Bool t e)
 unary_is un.Sqrt site u t e v came = made_is Fixed ty.Fixed site _ (λ n. refl) v came ∙ only_same _ ty.Fixed t e
 unary_is un.ToFixed site u t e v came = made_is Fixed ty.Fixed site _ (λ n. refl) v came ∙ only_same _ ty.Fixed t e
 unary_is un.Trunc site u t e v came = just _ v t came (only_same _ ty.Int t e)
+unary_is _ site u t e v came = made_like_is u t site _ e v came
 
 rem_is : (u : Value) (t : Ty) (site : Option ℕ) (r : Result ℤ Kind) → only (same_type (type_of_value u) ty.Int) ty.Int ≡ Some t
     → IsOf t (made (like u) site r)
 rem_is (Int m) t site r e v came = made_is (like (Int m)) ty.Int site r (λ n. refl) v came ∙ only_same true ty.Int t e
-rem_is (Fixed m) t site r e v came = absurd (cc)
-rem_is (Flag b) t site r e v came = absurd (cc)
+rem_is _ t site r e v came = absurd (cc)
 
 strict_is : (op : BinOp) (site : Option ℕ) (u x : Value) (t : Ty) → operation_type op (type_of_value u) ≡ Some t
     → type_of_value x ≡ type_of_value u → IsOf t (strict op site u x)
-strict_is bin.Add site u x t e same v came = made_like_is u t site _ e v came
-strict_is bin.Sub site u x t e same v came = made_like_is u t site _ e v came
-strict_is bin.Mul site u x t e same v came = made_like_is u t site _ e v came
-strict_is bin.Div site u x t e same v came = made_like_is u t site _ e v came
 strict_is bin.Rem site u x t e same v came = rem_is u t site _ e v came
 strict_is bin.Lt site u x t e same v came = just _ v t came (only_same _ ty.Bool t e)
 strict_is bin.Le site u x t e same v came = just _ v t came (only_same _ ty.Bool t e)
@@ -153,12 +145,11 @@ strict_is bin.And site u x t e same v came =
     just x v t came (same ∙ one_type _ ty.Bool (only_true _ ty.Bool t e) ∙ only_same _ ty.Bool t e)
 strict_is bin.Or site u x t e same v came =
     just x v t came (same ∙ one_type _ ty.Bool (only_true _ ty.Bool t e) ∙ only_same _ ty.Bool t e)
+strict_is _ site u x t e same v came = made_like_is u t site _ e v came
 
 choose_is : (u : Value) (a b : Worth) (t : Ty) → IsOf t a → IsOf t b → IsOf t (choose u a b)
-choose_is (Int n) a b t first second v e = second v e
-choose_is (Fixed n) a b t first second v e = second v e
 choose_is (Flag true) a b t first second v e = first v e
-choose_is (Flag false) a b t first second v e = second v e
+choose_is _ a b t first second v e = second v e
 
 flag_is : (b : Bool) → IsOf ty.Bool (Ok (Flag b))
 flag_is b v e = just (Flag b) v ty.Bool e refl

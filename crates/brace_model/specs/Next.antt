@@ -71,6 +71,11 @@ update_in scope class a =
 abbrev pub earlier_stop : Stop → Stop → Stop
 earlier_stop a b = if nat_lt b.site a.site then b else a
 
+-- the stop of the lesser site: of one, and of one that was met before it, if any was
+abbrev pub with_stop : Option Stop → Stop → Stop
+with_stop None stop = stop
+with_stop (Some met) stop = earlier_stop met stop
+
 -- the stop at the least site: sites are numbered in text order, so it is the first in the text
 abbrev pub first_stop : List Worth → Option Stop
 first_stop outcomes = reduce earlier_stop (filter_map result_err outcomes)

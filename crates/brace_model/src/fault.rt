@@ -1,5 +1,5 @@
 ghost use Rattle.std.specs.Prelude.{◌≡◌};
-ghost use Rattle.brace_model.specs.FaultOrder.{compared, comes_before, earlier, phase_rank, kind_rank};
+ghost use Rattle.brace_model.specs.FaultOrder.{compared, comes_before, earlier, with_earlier, phase_rank, kind_rank};
 
 use brace_num::Kind;
 use std::cmp::Ordering;
@@ -91,4 +91,14 @@ pub fn earlier(a: Fault, b: Fault) -> Fault
     ensures { result ≡ earlier a b }
 {
     if fault_less(&b, &a) { b } else { a }
+}
+
+/// The earlier of a fault and one that was found before it, if any was.
+pub fn with_earlier(found: Option<Fault>, fault: Fault) -> Fault
+    ensures { result ≡ with_earlier found fault }
+{
+    match found {
+        None => fault,
+        Some(found) => earlier(found, fault),
+    }
 }

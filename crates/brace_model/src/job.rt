@@ -1,4 +1,9 @@
-use crate::{Agent, Program, Value, World};
+ghost use Rattle.std.specs.Prelude.{◌≡◌};
+ghost use Rattle.brace_model.specs.Scopes.{scope_of};
+ghost use Rattle.brace_model.specs.Value.{agent_of};
+
+use crate::{Agent, Program, Value, Who, World};
+use brace_draw::Drawer;
 
 /// A run to be done.
 #[derive(Debug, Drop)]
@@ -26,4 +31,16 @@ pub struct Env<'a> {
     pub locals: &'a [Value],
     /// The number of each effect's total; a total of `or` is 0 or 1.
     pub totals: &'a [i128],
+}
+
+/// The agent that a name stands for, whatever is drawn.
+#[inline(always)]
+pub fn agent_of<'a>(env: &Env<'a>, drawer: &Drawer, who: Who) -> &'a Agent
+    ensures { result.now ≡ agent_of (scope_of env.now drawer.now) who }
+{
+    match who {
+        Who::This => env.this,
+        Who::Outer => env.outer.unwrap_or(env.this),
+        Who::Inner => env.inner.unwrap_or(env.this),
+    }
 }

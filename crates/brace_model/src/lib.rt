@@ -5,15 +5,17 @@ mod copy;
 mod fault;
 mod job;
 pub mod laws;
+mod next;
 mod program;
 mod sight;
 mod world;
 
 pub use brace_num::Area;
-pub use fault::{Fault, Phase, Stop, earlier, fault_less};
-pub use job::{Env, Job};
+pub use fault::{Fault, Phase, Stop, earlier, fault_less, with_earlier};
+pub use job::{Env, Job, agent_of};
+pub use next::{Left, child_with, survivor, update_fault, with_stop};
 pub use program::{
     BinOp, Class, Comb, Effect, Expr, Gift, Program, Spawn, State, Stmt, Ty, UnOp, Value, Who,
 };
 pub use sight::{class_of, has_births, number, sees, value_at, x_of, y_of};
-pub use world::{Agent, Census, Parent, Values, World};
+pub use world::{Agent, Census, Parent, Values, World, rises};

@@ -58,7 +58,7 @@ impl Model for World {
 const LAST_NEXT: u64 = 9_223_372_036_854_775_808;
 
 /// Whether each agent's id is above that of the agent before it.
-fn rises(agents: &[Agent]) -> bool
+pub fn rises(agents: &[Agent]) -> bool
     ensures { MatchBool result (RisesById agents.now) (RisesById agents.now → ⊥) }
 {
     for i in 1..agents.len() {

@@ -7,7 +7,7 @@ use Rattle.std.proofs.lemmas.List.Elements.{All-same, All-push}
 use Rattle.std.proofs.lemmas.Option.{slice_get_within}
 use Rattle.std.proofs.lemmas.List.Sums.{fold-append}
 use Rattle.brace_model.specs.declared.program.Value.{Value}
-use Rattle.brace_model.specs.declared.program.Value.TheVariants.{Int, Fixed, Flag}
+use Rattle.brace_model.specs.declared.program.Value.TheVariants.{Flag}
 use Rattle.brace_model.specs.declared.fault.Fault.{Fault}
 use Rattle.brace_model.specs.declared.fault.Stop.{Stop}
 use Rattle.brace_model.specs.declared.world.Agent.{Agent}
@@ -23,16 +23,12 @@ use Rattle.brace_plan.specs.inner.Walks.{Adds, with_faults, is_true}
 
 -- a value chooses by whether it is true
 chosen-first : (v : Value) (a b : Deed) → is_true v ≡ true → chosen v a b ≡ a
-chosen-first (Int n) a b e = absurd (cc)
-chosen-first (Fixed n) a b e = absurd (cc)
 chosen-first (Flag true) a b e = refl
-chosen-first (Flag false) a b e = absurd (cc)
+chosen-first _ a b e = absurd (cc)
 
 chosen-second : (v : Value) (a b : Deed) → is_true v ≡ false → chosen v a b ≡ b
-chosen-second (Int n) a b e = refl
-chosen-second (Fixed n) a b e = refl
 chosen-second (Flag true) a b e = absurd (cc)
-chosen-second (Flag false) a b e = refl
+chosen-second _ a b e = refl
 
 module _ (scene : Scene) where
   -- nothing is added

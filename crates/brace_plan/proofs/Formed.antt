@@ -20,19 +20,13 @@ use Rattle.brace_model.proofs.LawEquations.{scope_after-Const, scope_after-If, s
 abbrev pub IsFormed : List Stmt → Names → Type 0
 IsFormed s names = is_some (in_turn (map scope_after s) names) ≡ true
 
-pub is_there : {A : Type 0} (o : Option A) → is_some o ≡ true → (a : A) × (o ≡ Some a)
-is_there None e = absurd (cc)
-is_there (Some a) e = (a, refl)
-
 only_there : (test : Bool) (names : Names) → is_some (only test names) ≡ true → (test ≡ true) × (only test names ≡ Some names)
 only_there true names e = (refl, refl)
 only_there false names e = absurd (cc)
 
 bool_type : (o : Option Ty) → is_of_type ty.Bool o ≡ true → o ≡ Some ty.Bool
-bool_type None e = absurd (cc)
-bool_type (Some ty.Int) e = absurd (cc)
-bool_type (Some ty.Fixed) e = absurd (cc)
 bool_type (Some ty.Bool) e = refl
+bool_type _ e = absurd (cc)
 
 two_steps : {A : Type 0} (f : A → Option Names) (o : Option A) → is_some (option_and_then f o) ≡ true → (a : A) × (o ≡ Some a) × (is_some (f a) ≡ true)
 two_steps f None e = absurd (cc)

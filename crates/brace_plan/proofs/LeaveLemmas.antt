@@ -1,6 +1,6 @@
 -- What compiled rules make of an agent is what becomes of it.
-use Rattle.std.proofs.Common.{◌≡◌, ◌∙◌, sym, refl, ap, ap₂, ℕ, ℤ, List, [], ◌∷◌, ◌++◌, map, zip, fold, filter_map, append-nil, inl, inr, Bool, true, false, Option, Some, None, Result, Ok, Err}
-use Rattle.std.specs.Prelude.{◌⊎◌, if◌then◌else◌, slice_set}
+use Rattle.std.proofs.Common.{◌≡◌, ◌∙◌, sym, refl, ap, ap₂, ℕ, ℤ, List, [], ◌∷◌, ◌++◌, map, zip, fold, filter_map, append-nil, Bool, true, false, Option, Some, None, Result, Ok, Err}
+use Rattle.std.specs.Prelude.{◌⊎◌, if◌then◌else◌}
 use Rattle.std.specs.Result.{result_err}
 use Rattle.std.specs.List.{AllZip}
 use Rattle.std.proofs.lemmas.List.Sums.{fold-append}
@@ -19,18 +19,13 @@ use Rattle.brace_model.specs.Typing.{Names}
 use Rattle.brace_model.specs.Typed.{Fits}
 use Rattle.brace_model.specs.Query.{opening_scope}
 use Rattle.brace_model.specs.Next.{Next, ruled, condition_in, spawns_in, gifts_in, update_in, update_fault, earlier_stop, first_stop, values_of, holds, with_gifts, changed, child_in, left_by, next_in, next_of, unless_stopped}
+use Rattle.brace_model.proofs.Gifts.{no_pairs}
 use Rattle.brace_code.specs.declared.code.Code.{Code}
 use Rattle.brace_plan.specs.declared.rules.Rules.{Rules}
 use Rattle.brace_plan.specs.Ruling.{ruled_by, rules_by, gifts_by, gifts_of, condition_of, IsRuleOf, IsCodeOf, AreRulesOf, stop_after, stops_after}
 use Rattle.brace_plan.specs.Leaving.{dies_by, spawns_by, given_by, update_by, survivor, child_by, leaves_by, next_by}
 
 -- ---- where nothing is left of two lists, gone through pair by pair
-
-pub no_pairs : {A B : Type 0} (xs : List A) (ys : List B) → (xs ≡ []) ⊎ (ys ≡ []) → zip xs ys ≡ []
-no_pairs [] ys none = refl
-no_pairs (x ∷ xs) [] none = refl
-no_pairs (x ∷ xs) (y ∷ ys) (inl e) = absurd (cc)
-no_pairs (x ∷ xs) (y ∷ ys) (inr e) = absurd (cc)
 
 module _ (scope : Scope) (rules : List (Option Code)) (vs : List Value) (none : (rules ≡ []) ⊎ (vs ≡ [])) where
   no_rules : rules_by scope rules vs ≡ []
@@ -41,11 +36,6 @@ module _ (scope : Scope) (rules : List (Option Code)) (vs : List Value) (none : 
 
   pub all_stops : (met first : Option Stop) (all : List Worth) → stops_after met (rules_by scope rules vs) ≡ stops_after first all → met ≡ stops_after first all
   all_stops met first all h = ap (stops_after met) (sym no_rules) ∙ h
-
-pub all_given : (states old : List Value) (gs gifts : List Gift) (vs given : List Value) → (gs ≡ []) ⊎ (vs ≡ []) → with_gifts states gs vs ≡ with_gifts old gifts given
-    → states ≡ with_gifts old gifts given
-all_given states old gs gifts vs given none h =
-    ap (fold (λ (l : List Value) (g : Gift × Value). slice_set l g.0.state g.1) states) (sym (no_pairs gs vs none)) ∙ h
 
 -- ---- the first stop
 

@@ -54,16 +54,12 @@ module _ (program : Program) (world : List Agent) (scope : Scope) (p : Point) (v
   no_bound A x none far = absurd (let k : true ≡ false = sym (ap (list_all (meets scope p)) none) ∙ far in cc)
 
   pub quiet_block : (s : List Stmt) → Plain s → IsFormed s names → list_all (meets scope p) (alone (map nested s) variable class) ≡ false → Quiet (block (map (statement program world) s) scope)
-  quiet_block _ b.none formed far = absurd (cc)
   quiet_block _ (b.const n e [] h) formed far = no_bound _ _ (ap (λ x. x.sets variable class) (nested-Const n e)) far
-  quiet_block _ (b.const n e (y ∷ s) h) formed far = absurd (cc)
   quiet_block _ (b.cond c x [] [] hx hy h) formed far = quiet_if c x formed (sym (ap (λ z. list_all (meets scope p) (z.sets variable class)) (nested-If c x [])) ∙ far)
   quiet_block _ (b.cond c x (z ∷ y) [] hx hy h) formed far = no_bound _ _ (ap (λ k. k.sets variable class) (nested-If c x (z ∷ y)) ∙ ap (λ t. if t then (sense variable class c).bounds else []) (never_none (length (map nested y)))) far
-  quiet_block _ (b.cond c x y (z ∷ s) hx hy h) formed far = absurd (cc)
   quiet_block _ (b.loop k at body [] hb h) formed far = no_bound _ _ (ap (λ x. x.sets variable class) (nested-Foreach k body at)) far
-  quiet_block _ (b.loop k at body (y ∷ s) hb h) formed far = absurd (cc)
   quiet_block _ (b.say who effect e at [] h) formed far = no_bound _ _ (ap (λ x. x.sets variable class) (nested-Assign who effect e at)) far
-  quiet_block _ (b.say who effect e at (y ∷ s) h) formed far = absurd (cc)
+  quiet_block _ _ formed far = absurd (cc)
 
 -- ---- where the loop's agent stands
 

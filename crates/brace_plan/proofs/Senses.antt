@@ -8,7 +8,7 @@ use Rattle.std.proofs.lemmas.Cmp.{int_eq_equiv}
 use Rattle.std.proofs.lemmas.List.Folds.{list_all-append}
 use Rattle.brace_model.specs.declared.program.Ty.{Ty}
 use Rattle.brace_model.specs.declared.program.Value.{Value}
-use Rattle.brace_model.specs.declared.program.Value.TheVariants.{Int, Fixed, Flag}
+use Rattle.brace_model.specs.declared.program.Value.TheVariants.{Fixed, Flag}
 use Rattle.brace_model.specs.declared.program.UnOp.{UnOp}
 use Rattle.brace_model.specs.declared.program.UnOp.TheVariants as un
 use Rattle.brace_model.specs.declared.program.BinOp.{BinOp}
@@ -44,24 +44,17 @@ no_site A None e f = absurd (cc)
 no_site A (Some n) e f = absurd (cc)
 
 unary_clear : (op : UnOp) (site : Option ℕ) (u : Value) → is_sited (unary_faults op) site ≡ true → is_none site ≡ true → IsValue (unary op site u)
-unary_clear un.Neg site u e f = no_site _ site e f
 unary_clear un.Not site u e f = (_, refl)
-unary_clear un.Abs site u e f = no_site _ site e f
-unary_clear un.Sqrt site u e f = no_site _ site e f
-unary_clear un.ToFixed site u e f = no_site _ site e f
 unary_clear un.Trunc site u e f = (_, refl)
+unary_clear _ site u e f = no_site _ site e f
 
 choose_clear : (u : Value) (x y : Value) → IsValue (choose u (Ok x) (Ok y))
-choose_clear (Int n) x y = (_, refl)
-choose_clear (Fixed n) x y = (_, refl)
 choose_clear (Flag true) x y = (_, refl)
-choose_clear (Flag false) x y = (_, refl)
+choose_clear _ x y = (_, refl)
 
 choose_same : (u : Value) (w : Worth) → choose u w w ≡ w
-choose_same (Int n) w = refl
-choose_same (Fixed n) w = refl
 choose_same (Flag true) w = refl
-choose_same (Flag false) w = refl
+choose_same _ w = refl
 
 binary_clear : (op : BinOp) (site : Option ℕ) (x y : Value) → is_sited (binary_faults op) site ≡ true → is_none site ≡ true → IsValue (binary op site (Ok x) (Ok y))
 binary_clear bin.Add site x y e f = no_site _ site e f
@@ -69,16 +62,9 @@ binary_clear bin.Sub site x y e f = no_site _ site e f
 binary_clear bin.Mul site x y e f = no_site _ site e f
 binary_clear bin.Div site x y e f = no_site _ site e f
 binary_clear bin.Rem site x y e f = no_site _ site e f
-binary_clear bin.Lt site x y e f = (_, refl)
-binary_clear bin.Le site x y e f = (_, refl)
-binary_clear bin.Gt site x y e f = (_, refl)
-binary_clear bin.Ge site x y e f = (_, refl)
-binary_clear bin.Eq site x y e f = (_, refl)
-binary_clear bin.Ne site x y e f = (_, refl)
-binary_clear bin.Min site x y e f = (_, refl)
-binary_clear bin.Max site x y e f = (_, refl)
 binary_clear bin.And site x y e f = choose_clear x y (Flag false)
 binary_clear bin.Or site x y e f = choose_clear x (Flag true) y
+binary_clear _ site x y e f = (_, refl)
 
 total_clear : (t : Ty) (site : Option ℕ) (n : ℤ) → is_none site ≡ true → IsValue (total_read t site n)
 total_clear t None n e = (_, refl)
@@ -92,16 +78,7 @@ left_is bin.Le s site x y e = ap (λ z. Ok (Flag (stands z (number y) (number x)
 left_is bin.Gt s site x y e = ap (λ z. Ok (Flag (stands z (number y) (number x)))) (let k : side.Above ≡ s = cc in k)
 left_is bin.Ge s site x y e = ap (λ z. Ok (Flag (stands z (number y) (number x)))) (let k : side.AtLeast ≡ s = cc in k)
 left_is bin.Eq s site x y e = ap (λ z. Ok (Flag (stands z (number y) (number x)))) (let k : side.At ≡ s = cc in k)
-left_is bin.Add s site x y e = absurd (cc)
-left_is bin.Sub s site x y e = absurd (cc)
-left_is bin.Mul s site x y e = absurd (cc)
-left_is bin.Div s site x y e = absurd (cc)
-left_is bin.Rem s site x y e = absurd (cc)
-left_is bin.Ne s site x y e = absurd (cc)
-left_is bin.Min s site x y e = absurd (cc)
-left_is bin.Max s site x y e = absurd (cc)
-left_is bin.And s site x y e = absurd (cc)
-left_is bin.Or s site x y e = absurd (cc)
+left_is _ s site x y e = absurd (cc)
 
 right_is : (op : BinOp) (s : Side) (site : Option ℕ) (x y : Value) → side_right op ≡ Some s → binary op site (Ok x) (Ok y) ≡ Ok (Flag (stands s (number x) (number y)))
 right_is bin.Lt s site x y e = ap (λ z. Ok (Flag (stands z (number x) (number y)))) (let k : side.Above ≡ s = cc in k)
@@ -110,16 +87,7 @@ right_is bin.Gt s site x y e = ap (λ z. Ok (Flag (stands z (number x) (number y
 right_is bin.Ge s site x y e = ap (λ z. Ok (Flag (stands z (number x) (number y)))) (let k : side.AtMost ≡ s = cc in k)
 right_is bin.Eq s site x y e =
     ap (λ z. Ok (Flag z)) (int_eq_equiv.symm (number x) (number y)) ∙ ap (λ z. Ok (Flag (stands z (number x) (number y)))) (let k : side.At ≡ s = cc in k)
-right_is bin.Add s site x y e = absurd (cc)
-right_is bin.Sub s site x y e = absurd (cc)
-right_is bin.Mul s site x y e = absurd (cc)
-right_is bin.Div s site x y e = absurd (cc)
-right_is bin.Rem s site x y e = absurd (cc)
-right_is bin.Ne s site x y e = absurd (cc)
-right_is bin.Min s site x y e = absurd (cc)
-right_is bin.Max s site x y e = absurd (cc)
-right_is bin.And s site x y e = absurd (cc)
-right_is bin.Or s site x y e = absurd (cc)
+right_is _ s site x y e = absurd (cc)
 
 -- ---- senses
 
@@ -161,8 +129,7 @@ module _ (scope : Scope) (p : Point) where
 
   lit_sensed : (variable : Who) (class : Class) (v : Value) → HasSense (sense_step variable class (expr.Lit v)) (Ok v)
   lit_sensed variable class (Fixed n) = is_limit (limit.Number n) (Fixed n) refl
-  lit_sensed variable class (Int n) = is_plain true _ (λ e. (_, refl))
-  lit_sensed variable class (Flag b) = is_plain true _ (λ e. (_, refl))
+  lit_sensed variable class _ = is_plain true _ (λ e. (_, refl))
 
   -- the loop's agent stands at the point
   abbrev pub StandsHere : Who → Class → Type 0

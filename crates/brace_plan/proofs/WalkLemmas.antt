@@ -1,23 +1,30 @@
 -- What is left of a block and of a loop, and what it adds.
-use Rattle.std.proofs.Common.{◌≡◌, ◌∙◌, sym, refl, ap, subst, ℕ, ◌+◌, ◌<◌, List, [], ◌∷◌, ◌++◌, map, filter, length, drop, get_or, Bool, true, false, ◌&&◌, cond, append-nil, Result, Ok, Err, zero, suc, arith}
+use Rattle.std.proofs.Common.{◌≡◌, ◌∙◌, sym, refl, ap, subst, ℕ, ◌+◌, ◌<◌, List, [], ◌∷◌, ◌++◌, map, filter, length, drop, get_or, Bool, true, false, ◌&&◌, cond, append-nil, Some, Result, Ok, Err, zero, suc, arith}
 use Rattle.std.specs.Prelude.{◌==◌, IfOk}
+use Rattle.std.specs.Result.{result_ok}
 use Rattle.std.specs.List.{list_all}
 use Rattle.std.proofs.lemmas.List.{drop_more}
 use Rattle.brace_num.proofs.Lists.{filter_twice}
 use Rattle.brace_model.specs.declared.fault.Fault.{Fault}
+use Rattle.brace_model.specs.declared.program.Value.{Value}
 use Rattle.brace_model.specs.declared.world.Agent.{Agent}
 use Rattle.brace_model.specs.World.{sees}
 use Rattle.brace_model.specs.Value.{Scope}
-use Rattle.brace_model.specs.Query.{Saying, Deed, followed_by, inside, iterated}
+use Rattle.brace_model.specs.Query.{Saying, Deed, followed_by, closed, chosen, inside, iterated}
 use Rattle.brace_model.proofs.Deeds.{after, goes_to, stops_at}
 use Rattle.brace_grid.specs.Grids.{place_of}
+use Rattle.brace_code.specs.declared.code.Code.{Code}
+use Rattle.brace_code.specs.Codes.{gives}
 use Rattle.brace_plan.specs.declared.action.Action.{Action}
+use Rattle.brace_plan.specs.declared.action.Action.TheVariants.{If}
 use Rattle.brace_plan.specs.declared.action.Bound.{Bound}
 use Rattle.brace_plan.specs.declared.answer.Answer.{Answer}
 use Rattle.brace_plan.specs.declared.seat.Scene.{Scene}
+use Rattle.brace_plan.specs.declared.seat.Seat.{Seat}
 use Rattle.brace_plan.specs.Acts.{meets, near_by}
-use Rattle.brace_plan.specs.inner.Walks.{Adds, act_in, block_in, is_taken, loop_in, agents_at}
-use Rattle.brace_plan.proofs.AnswerLemmas.{adds-alike, adds-then}
+use Rattle.brace_plan.specs.inner.Walks.{Adds, act_in, block_in, is_taken, is_true, loop_in, agents_at, scope_at, worth_in}
+use Rattle.brace_plan.proofs.AnswerLemmas.{adds-alike, adds-first, adds-second, adds-then, adds-value}
+use Rattle.brace_plan.proofs.Steps.{act-If}
 
 -- ---- blocks
 
@@ -38,6 +45,37 @@ module _ (scene : Scene) (items body : List Action) (i : ℕ) (s : Action) (same
   goes_on here next on at =
       turn here ∙ goes_to (act_in scene s here) (block_in scene (drop (i + 1) body)) on
       ∙ ap (λ (p : Scope). after (act_in scene s here) (block_in scene (drop (i + 1) body) p)) at
+
+-- what `if` adds: what its condition comes to, and what the block does that this chooses
+pub adds-if : (scene : Scene) (seat : Seat) (seed : ℕ) (locals : List Value) (e : Action)
+    (code : Code) (a b : List Action) (v : Value) (t : Bool) (before first last : Answer) (now : ℕ)
+    → e ≡ If code a b → result_ok (gives code (scope_at scene seat seed locals)) ≡ Some v
+    → Adds scene (worth_in (scope_at scene seat seed locals) code) before first
+    → is_true v ≡ t → now ≡ seed
+    → Adds scene (block_in scene (cond t a b) (scope_at scene seat now locals)) first last
+    → Adds scene (act_in scene e (scope_at scene seat seed locals)) before last
+adds-if scene seat seed locals e code a b v t before first last now is value added side same does =
+    subst (λ (d : Deed). Adds scene d before last)
+    (sym (ap (λ (z : Action). act_in scene z here) is
+    ∙ act-If scene.program.now scene.agents.now code a b here))
+    (adds-value scene here (gives code here) (λ u. closed here (chosen u x y)) v before first last
+    value added (by_side t side (subst
+    (λ (n : ℕ). Adds scene (block_in scene (cond t a b) (scope_at scene seat n locals)) first last)
+    same does)))
+  where
+    here : Scope
+    here = scope_at scene seat seed locals
+
+    x : Deed
+    x = block_in scene a here
+
+    y : Deed
+    y = block_in scene b here
+
+    by_side : (u : Bool) → is_true v ≡ u → Adds scene (block_in scene (cond u a b) here) first last
+        → Adds scene (closed here (chosen v x y)) first last
+    by_side true is h = adds-first scene here v x y first last is h
+    by_side false is h = adds-second scene here v x y first last is h
 
 -- ---- loops
 

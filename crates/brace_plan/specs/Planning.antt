@@ -6,7 +6,7 @@ use Rattle.brace_model.specs.declared.program.Class.{Class}
 use Rattle.brace_model.specs.declared.program.Program.{Program}
 use Rattle.brace_model.specs.declared.program.Stmt.{Stmt}
 use Rattle.brace_model.specs.declared.world.Agent.{Agent}
-use Rattle.brace_model.specs.Lawful.{is_lawful_agent}
+use Rattle.brace_model.specs.Lawful.{LawfulProgram, is_lawful_agent}
 use Rattle.brace_model.specs.World.{no_value}
 use Rattle.brace_model.specs.Value.{Scope}
 use Rattle.brace_model.specs.Query.{block, statement, constants, opening_scope, query_of}
@@ -31,6 +31,11 @@ told = fold-Action (List Loop) told_step
 
 abbrev pub told_by : List Action → List Loop
 told_by actions = flat_map told actions
+
+-- a class is that of a number in a lawful program
+pub record IsClassOf (program : Program) (number : ℕ) (c : Class) : Type 0 where
+  pub lawful : LawfulProgram program
+  pub class : slice_get program.classes number ≡ Some c
 
 -- actions do what the query of a class does: for each agent of the class, over lawful agents; and
 -- their loops are as many times narrowed as those of the query

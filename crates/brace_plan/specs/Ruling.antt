@@ -12,7 +12,7 @@ use Rattle.brace_model.specs.Value.{Scope, Worth, value}
 use Rattle.brace_model.specs.Typing.{Names}
 use Rattle.brace_model.specs.Typed.{Fits}
 use Rattle.brace_model.specs.Lawful.{rule_scope}
-use Rattle.brace_model.specs.Next.{earlier_stop, ruled}
+use Rattle.brace_model.specs.Next.{ruled, with_stop}
 use Rattle.brace_code.specs.declared.code.Code.{Code}
 use Rattle.brace_code.specs.Codes.{gives}
 use Rattle.brace_plan.specs.declared.rules.Rules.{Rules}
@@ -60,11 +60,6 @@ pub record AreRulesOf (names : Names) (class : Class) (rules : Rules) : Type 0 w
 abbrev pub AreAllRulesOf : Program → List Rules → Type 0
 AreAllRulesOf program =
     OneEach program (λ number class rules. AreRulesOf (rule_scope program number) class rules)
-
--- the stop of the lesser site: of one, and of one that was met before it, if any was
-abbrev pub with_stop : Option Stop → Stop → Stop
-with_stop None stop = stop
-with_stop (Some met) stop = earlier_stop met stop
 
 -- the stop of the least site after one outcome more, and after some
 abbrev pub stop_after : Option Stop → Worth → Option Stop

@@ -1,32 +1,26 @@
-ghost use Rattle.std.specs.Prelude.{◌≡◌, ◌≤◌, ◌^◌, [], ◌∷◌, pos, ◌≤ℤ◌, IsTrue, IfOk, IfErr, OnOk, Ok, Err, Some, slice_set};
+ghost use Rattle.std.specs.Prelude.{◌≡◌, ◌≤◌, ◌^◌, [], ◌∷◌, pos, ◌≤ℤ◌, IsTrue, IfOk, IfErr, OnOk, Ok, Err, Some};
 ghost use Rattle.std.specs.Result.{result_ok};
 ghost use Rattle.brace_model.specs.World.{class_of, no_value};
 ghost use Rattle.brace_model.specs.Lawful.{is_lawful_agent};
 ghost use Rattle.brace_model.specs.Query.{opening_scope};
 ghost use Rattle.brace_model.specs.Typing.{Names};
 ghost use Rattle.brace_model.specs.Typed.{Fits};
-ghost use Rattle.brace_model.specs.Next.{holds, moved, changed, with_gifts, values_of, update_fault, next_in};
+ghost use Rattle.brace_model.specs.Next.{holds, values_of, next_in};
 ghost use Rattle.brace_model.specs.Scopes.{scope_of};
 ghost use Rattle.brace_code.specs.Codes.{gives};
-ghost use Rattle.brace_plan.specs.Ruling.{AreRulesOf, ruled_by, rules_by, gifts_by, with_stop, stop_after, stops_after};
-ghost use Rattle.brace_plan.specs.Leaving.{with_one, spawns_by, given_by, survivor, child_by};
+ghost use Rattle.brace_plan.specs.Ruling.{AreRulesOf, ruled_by, rules_by, gifts_by, stop_after, stops_after};
+ghost use Rattle.brace_plan.specs.Leaving.{with_one, spawns_by, given_by, child_by};
 
 use crate::desk::{Desk, is_true};
 use crate::plans::Plans;
 use crate::room::Room;
 use crate::rules::{Rules, gifts_of};
 use brace_code::Code;
-use brace_model::{Agent, Class, Env, Fault, Gift, Phase, Stop, Value, number, value_at};
-use brace_num::{List, NoMemory, clamp};
+use brace_model::{
+    Agent, Class, Env, Fault, Left, Stop, Value, child_with, survivor, update_fault, with_stop,
+};
+use brace_num::NoMemory;
 use std::alloc::Global;
-
-/// What an agent leaves to the next world: itself, unless it dies, and its child, where it has one.
-/// A child bears its parent's id until it gets an id of its own.
-#[derive(Debug, Drop)]
-pub struct Left {
-    pub agent: Option<Agent>,
-    pub child: Option<Agent>,
-}
 
 /// Why an agent leaves nothing.
 #[derive(Debug, Drop)]
@@ -43,16 +37,6 @@ impl From<NoMemory> for LeaveFault {
 
     fn from(_: NoMemory) -> LeaveFault {
         LeaveFault::NoMemory
-    }
-}
-
-/// The stop of the lesser site: of one, and of one that was met before it, if any was.
-fn with_stop(met: Option<Stop>, stop: Stop) -> Stop
-    ensures { result ≡ with_stop met stop }
-{
-    match met {
-        None => stop,
-        Some(met) => { if stop.site < met.site { stop } else { met } }
     }
 }
 
@@ -180,75 +164,6 @@ fn gifts(
     Ok(given)
 }
 
-/// A coordinate's new value, moved into reach of its old one.
-fn move_within(new: &mut [Value], old: &[Value], place: u32, reach: i64)
-    requires { pos 0 ≤ℤ reach }
-    ensures { new.new ≡ moved reach old.now place new.old }
-{
-    let at = place as usize;
-    if at < new.len() {
-        new[at] = Value::Fixed(clamp(
-            number(value_at(old, place)),
-            number(value_at(new, place)),
-            reach,
-        ));
-    }
-}
-
-/// An agent of a class with other states, both coordinates moved into reach.
-pub fn changed(a: &Agent, class: &Class, mut new: Vec<Value>) -> Agent
-    requires { pos 0 ≤ℤ class.now.reach }
-    ensures { result ≡ changed class.now a.now new.items }
-{
-    let old = a.states.as_slice();
-    move_within(&mut new, old, class.x, class.reach);
-    move_within(&mut new, old, class.y, class.reach);
-    Agent {
-        class: a.class,
-        id: a.id,
-        states: List::from_vec(new),
-    }
-}
-
-/// An agent of a class with its new states, unless it dies.
-fn survivor(dies: bool, a: &Agent, class: &Class, new: Vec<Value>) -> Option<Agent>
-    requires { pos 0 ≤ℤ class.now.reach }
-    ensures { result ≡ survivor dies class.now a.now new.items }
-{
-    if dies {
-        return None;
-    }
-    Some(changed(a, class, new))
-}
-
-/// Puts a value in the place of a state, where there is one.
-fn put(states: &mut [Value], place: u32, v: Value)
-    ensures { states.new ≡ slice_set states.old place v }
-{
-    let at = place as usize;
-    if at < states.len() {
-        states[at] = v;
-    }
-}
-
-/// Puts gifts in the places of some states.
-pub fn give(states: &mut [Value], gifts: &[Gift], given: &[Value])
-    ensures { states.new ≡ with_gifts states.old gifts.now given.now }
-{
-    for (gift, v) in gifts.iter().zip(given) {
-        put(states, gift.state, *v);
-    }
-}
-
-/// Values equal to these.
-fn copied(alloc: Global, values: &[Value]) -> Result<Vec<Value>, NoMemory>
-    ensures { IfOk result (λ copy. copy.items ≡ values.now) }
-{
-    let mut copy = Vec::with_capacity(alloc, values.len())?;
-    copy.extend_from_slice(values)?;
-    Ok(copy)
-}
-
 /// The child of an agent of a class, where it has one.
 fn child(
     alloc: Global,
@@ -272,24 +187,8 @@ fn child(
         return Ok(None);
     }
     let given = gifts(alloc, rules.gifts.as_slice(), env, desk, met)?;
-    let mut states = copied(alloc, a.states.as_slice())?;
-    give(&mut states, gifts_of(&class.spawn), &given);
-    Ok(Some(changed(a, class, states)))
-}
-
-/// The fault of an agent's update.
-fn update_fault(tick: u64, a: &Agent, stop: Stop) -> Fault
-    ensures { result ≡ update_fault tick a.now stop }
-{
-    Fault {
-        tick,
-        phase: Phase::Update,
-        agent: a.id,
-        site: stop.site,
-        outer: None,
-        inner: None,
-        kind: stop.kind,
-    }
+    let child = child_with(alloc, class, a, gifts_of(&class.spawn), &given)?;
+    Ok(Some(child))
 }
 
 /// What an agent of a class leaves by the class's rules, with its own totals, or the fault of its

@@ -27,7 +27,8 @@ fn limit_at(scene: &Scene, seat: &Seat, locals: &[Value], limit: Limit) -> i64
 }
 
 /// Whether a coordinate stands so to a limit.
-fn stands(side: Side, limit: i64, v: i64) -> bool
+#[inline(always)]
+pub fn stands(side: Side, limit: i64, v: i64) -> bool
     ensures { result ≡ stands side limit v }
 {
     match side {

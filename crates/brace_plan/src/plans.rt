@@ -1,7 +1,7 @@
-ghost use Rattle.std.specs.Prelude.{◌≡◌, ◌++◌, Some, slice_get, IfOk, OnOk};
+ghost use Rattle.std.specs.Prelude.{◌≡◌, ◌++◌, IfOk, OnOk};
 ghost use Rattle.brace_model.specs.Lawful.{LawfulProgram};
 ghost use Rattle.brace_plan.specs.Narrowing.{loops_in, bounds_at};
-ghost use Rattle.brace_plan.specs.Planning.{IsPlanOf, ArePlansOf};
+ghost use Rattle.brace_plan.specs.Planning.{IsClassOf, IsPlanOf, ArePlansOf};
 
 use crate::action::Action;
 use crate::constants::Constants;
@@ -60,8 +60,7 @@ fn plan_query(
     number: u32,
     class: &Class,
 ) -> Result<Planned, NoMemory>
-    requires lawful { LawfulProgram program.now }
-    requires class { slice_get program.now.classes number ≡ Some class.now }
+    requires { IsClassOf program.now number class.now }
     ensures { IfOk result (λ planned. IsPlanOf program.now number class.now.query planned) }
 {
     let known = Known {

@@ -1,9 +1,10 @@
-ghost use Rattle.std.specs.Prelude.{◌≡◌, List, Some, IsTrue, IfOk, slice_get};
+ghost use Rattle.std.specs.Prelude.{◌≡◌, List, IsTrue, IfOk};
 ghost use Rattle.std.specs.List.{AllZip, list_all};
 ghost use Rattle.brace_model.specs.declared.program.Ty.{Ty};
 ghost use Rattle.brace_model.specs.declared.program.State.{State};
 ghost use Rattle.brace_model.specs.Lawful.{LawfulProgram, is_given, is_ruled, is_spawn, rule_scope};
 ghost use Rattle.brace_code.specs.Codes.{names_of};
+ghost use Rattle.brace_plan.specs.Planning.{IsClassOf};
 ghost use Rattle.brace_plan.specs.Ruling.{AreRulesOf, AreAllRulesOf, IsCodeOf, IsRuleOf, condition_of, gifts_of};
 
 use brace_code::{Code, Known, compile};
@@ -99,8 +100,7 @@ fn compile_class(
     number: u32,
     class: &Class,
 ) -> Result<Rules, NoMemory>
-    requires lawful { LawfulProgram program.now }
-    requires class { slice_get program.now.classes number ≡ Some class.now }
+    requires { IsClassOf program.now number class.now }
     ensures { IfOk result (AreRulesOf (rule_scope program.now number) class.now) }
 {
     let classes = program.classes.as_slice();

@@ -2,8 +2,7 @@ ghost use Rattle.std.specs.Prelude.{◌≡◌, ◌≤◌, ◌^◌, ◌∷◌, []
 ghost use Rattle.std.specs.Result.{result_ok};
 ghost use Rattle.brace_code.specs.Codes.{gives};
 ghost use Rattle.brace_model.specs.declared.world.Agent.{Agent};
-ghost use Rattle.brace_model.specs.FaultOrder.{with_earlier};
-ghost use Rattle.brace_plan.specs.inner.Walks.{IsScene, IsSeat, IsPlaced, scope_at, Sets, Adds, worth_in, act_in, block_in, loop_in, agents_at, AreWithin, IsInSight, AreInSight};
+ghost use Rattle.brace_plan.specs.inner.Walks.{IsAsked, IsPlaced, scope_at, Sets, Adds, worth_in, act_in, block_in, loop_in, agents_at, AreWithin, IsInSight, AreInSight};
 
 use crate::action::{Action, Bound};
 use crate::answer::{Answer, Said};
@@ -11,18 +10,15 @@ use crate::desk::{Desk, is_true, set, set_back};
 use crate::near::{find, is_taken};
 use crate::seat::{Placed, Scene, Seat, env_at};
 use brace_code::Code;
-use brace_model::{Agent, Fault, Value, Who, earlier};
+use brace_model::{Agent, Value, with_earlier};
 use brace_num::{List, NoMemory};
 use std::alloc::Global;
 
-/// The earlier of a fault and one that was found before it, if any was.
-fn with_earlier(found: Option<Fault>, fault: Fault) -> Fault
-    ensures { result ≡ with_earlier found fault }
-{
-    match found {
-        None => fault,
-        Some(found) => earlier(found, fault),
-    }
+/// Which agents a loop takes: those of a class that `this` sees and that meet all bounds.
+#[derive(Clone, Copy)]
+struct Taken<'a> {
+    class: u32,
+    bounds: &'a List<Bound>,
 }
 
 /// The value of code, or None where it stops; the fault is noted.
@@ -68,9 +64,7 @@ fn action<'a>(
     desk: &mut Desk,
     answer: &mut Answer,
 ) -> Result<bool, NoMemory>
-    requires scene { IsScene scene.now }
-    requires seat { IsSeat scene.now seat.now }
-    requires ticks { scene.now.tick ≤ 2 ^ 32 }
+    requires asked { IsAsked scene.now seat.now }
     ensures added { IfOk result (λ _. Adds scene.now (act_in scene.now action.now
         (scope_at scene.now seat.now desk.old.drawer.seed locals.old)) answer.old answer.new) }
     ensures stopped { IfOk result (λ stopped. stopped ≡ (act_in scene.now action.now
@@ -101,9 +95,11 @@ fn action<'a>(
             None => Ok(true),
         },
         Action::Foreach(class, bounds, body, _) => {
-            iterations(
-                alloc, scene, seat, *class, bounds, body, locals, desk, answer,
-            )?;
+            let taken = Taken {
+                class: *class,
+                bounds,
+            };
+            iterations(alloc, scene, seat, taken, body, locals, desk, answer)?;
             Ok(false)
         }
         Action::Assign(who, effect, code) => {
@@ -122,37 +118,8 @@ fn action<'a>(
     }
 }
 
-/// Does actions in turn up to the first that is cut short, and answers whether one was.
-#[cycle(walk)]
-fn actions<'a>(
-    alloc: Global,
-    scene: &Scene<'a>,
-    seat: &Seat<'a>,
-    body: &List<Action>,
-    locals: &mut [Value],
-    desk: &mut Desk,
-    answer: &mut Answer,
-) -> Result<bool, NoMemory>
-    requires scene { IsScene scene.now }
-    requires seat { IsSeat scene.now seat.now }
-    requires ticks { scene.now.tick ≤ 2 ^ 32 }
-    ensures added { IfOk result (λ _. Adds scene.now (block_in scene.now body.now
-        (scope_at scene.now seat.now desk.old.drawer.seed locals.old)) answer.old answer.new) }
-    ensures stopped { IfOk result (λ stopped. stopped ≡ (block_in scene.now body.now
-        (scope_at scene.now seat.now desk.old.drawer.seed locals.old)).stopped) }
-    ensures set { IfOk result (λ _.
-        Sets desk.old.trail.items desk.new.trail.items locals.old locals.new) }
-    ensures seed { desk.new.drawer.seed ≡ desk.old.drawer.seed }
-{
-    for item in body.as_slice() {
-        if action(alloc, scene, seat, item, locals, desk, answer)? {
-            return Ok(true);
-        }
-    }
-    Ok(false)
-}
-
-/// Does a block, sets its constants back, and answers whether it was cut short.
+/// Does the actions of a block in turn, up to the first that is cut short, sets its constants back,
+/// and answers whether one was.
 #[cycle(walk)]
 pub fn block<'a>(
     alloc: Global,
@@ -163,9 +130,7 @@ pub fn block<'a>(
     desk: &mut Desk,
     answer: &mut Answer,
 ) -> Result<bool, NoMemory>
-    requires scene { IsScene scene.now }
-    requires seat { IsSeat scene.now seat.now }
-    requires ticks { scene.now.tick ≤ 2 ^ 32 }
+    requires asked { IsAsked scene.now seat.now }
     ensures added { IfOk result (λ _. Adds scene.now (block_in scene.now body.now
         (scope_at scene.now seat.now desk.old.drawer.seed locals.old)) answer.old answer.new) }
     ensures stopped { IfOk result (λ stopped. stopped ≡ (block_in scene.now body.now
@@ -175,9 +140,14 @@ pub fn block<'a>(
     ensures seed { desk.new.drawer.seed ≡ desk.old.drawer.seed }
 {
     let mark = desk.trail.len();
-    let stopped = actions(alloc, scene, seat, body, locals, desk, answer)?;
+    for item in body.as_slice() {
+        if action(alloc, scene, seat, item, locals, desk, answer)? {
+            set_back(locals, &mut desk.trail, mark);
+            return Ok(true);
+        }
+    }
     set_back(locals, &mut desk.trail, mark);
-    Ok(stopped)
+    Ok(false)
 }
 
 /// Does a loop's block at the agent of a place, of which may be known that it is in sight, if the
@@ -187,8 +157,7 @@ fn iteration<'a>(
     alloc: Global,
     scene: &Scene<'a>,
     seat: &Seat<'a>,
-    class: u32,
-    bounds: &List<Bound>,
+    taken: Taken,
     body: &List<Action>,
     other: &Placed<'a>,
     in_sight: bool,
@@ -196,20 +165,27 @@ fn iteration<'a>(
     desk: &mut Desk,
     answer: &mut Answer,
 ) -> Result<(), NoMemory>
-    requires scene { IsScene scene.now }
-    requires seat { IsSeat scene.now seat.now }
+    requires asked { IsAsked scene.now seat.now }
     requires other { IsPlaced scene.now other.now }
     requires sight { in_sight ≡ true
         → IsInSight scene.now seat.now.this.agent.now other.now.agent.now }
-    requires ticks { scene.now.tick ≤ 2 ^ 32 }
     ensures added { OnOk result (Adds scene.now (loop_in scene.now
         (scope_at scene.now seat.now desk.old.drawer.seed locals.old)
-        class bounds.now body.now (other.now.agent.now ∷ [])) answer.old answer.new) }
+        taken.entry.class taken.entry.bounds.now body.now (other.now.agent.now ∷ []))
+        answer.old answer.new) }
     ensures locals { OnOk result (locals.new ≡ locals.old) }
     ensures trail { OnOk result (desk.new.trail.items ≡ desk.old.trail.items) }
     ensures seed { desk.new.drawer.seed ≡ desk.old.drawer.seed }
 {
-    if is_taken(scene, seat, locals, class, bounds, other.agent, in_sight) {
+    if is_taken(
+        scene,
+        seat,
+        locals,
+        taken.class,
+        taken.bounds,
+        other.agent,
+        in_sight,
+    ) {
         let inside = seat.inside(scene, other);
         block(alloc, scene, &inside, body, locals, desk, answer)?;
     }
@@ -223,8 +199,7 @@ fn visits<'a>(
     alloc: Global,
     scene: &Scene<'a>,
     seat: &Seat<'a>,
-    class: u32,
-    bounds: &List<Bound>,
+    taken: Taken,
     body: &List<Action>,
     near: &[u32],
     in_sight: bool,
@@ -232,14 +207,13 @@ fn visits<'a>(
     desk: &mut Desk,
     answer: &mut Answer,
 ) -> Result<(), NoMemory>
-    requires scene { IsScene scene.now }
-    requires seat { IsSeat scene.now seat.now }
+    requires asked { IsAsked scene.now seat.now }
     requires near { AreWithin scene.now near.now }
     requires sight { AreInSight scene.now seat.now.this.agent.now in_sight near.now }
-    requires ticks { scene.now.tick ≤ 2 ^ 32 }
     ensures added { OnOk result ((d : Agent) → Adds scene.now (loop_in scene.now
         (scope_at scene.now seat.now desk.old.drawer.seed locals.old)
-        class bounds.now body.now (agents_at scene.now d near.now)) answer.old answer.new) }
+        taken.entry.class taken.entry.bounds.now body.now (agents_at scene.now d near.now))
+        answer.old answer.new) }
     ensures locals { OnOk result (locals.new ≡ locals.old) }
     ensures trail { OnOk result (desk.new.trail.items ≡ desk.old.trail.items) }
     ensures seed { desk.new.drawer.seed ≡ desk.old.drawer.seed }
@@ -250,31 +224,29 @@ fn visits<'a>(
             agent: &scene.agents[*place as usize],
         };
         iteration(
-            alloc, scene, seat, class, bounds, body, &other, in_sight, locals, desk, answer,
+            alloc, scene, seat, taken, body, &other, in_sight, locals, desk, answer,
         )?;
     }
     Ok(())
 }
 
-/// Does a loop's block at each agent of a class that `this` sees and that meets all bounds.
+/// Does a loop's block at each agent that the loop takes.
 #[cycle(walk)]
 fn iterations<'a>(
     alloc: Global,
     scene: &Scene<'a>,
     seat: &Seat<'a>,
-    class: u32,
-    bounds: &List<Bound>,
+    taken: Taken,
     body: &List<Action>,
     locals: &mut [Value],
     desk: &mut Desk,
     answer: &mut Answer,
 ) -> Result<(), NoMemory>
-    requires scene { IsScene scene.now }
-    requires seat { IsSeat scene.now seat.now }
-    requires ticks { scene.now.tick ≤ 2 ^ 32 }
+    requires asked { IsAsked scene.now seat.now }
     ensures added { OnOk result (Adds scene.now (loop_in scene.now
         (scope_at scene.now seat.now desk.old.drawer.seed locals.old)
-        class bounds.now body.now scene.now.agents.now) answer.old answer.new) }
+        taken.entry.class taken.entry.bounds.now body.now scene.now.agents.now)
+        answer.old answer.new) }
     ensures locals { OnOk result (locals.new ≡ locals.old) }
     ensures trail { OnOk result (desk.new.trail.items ≡ desk.old.trail.items) }
     ensures seed { desk.new.drawer.seed ≡ desk.old.drawer.seed }
@@ -283,13 +255,12 @@ fn iterations<'a>(
         Some(near) => near,
         None => Vec::new(alloc),
     };
-    let in_sight = find(scene, seat, locals, bounds, &mut near)?;
+    let in_sight = find(scene, seat, locals, taken.bounds, &mut near)?;
     visits(
         alloc,
         scene,
         seat,
-        class,
-        bounds,
+        taken,
         body,
         near.as_slice(),
         in_sight,

@@ -5,12 +5,7 @@ use Rattle.brace_model.specs.declared.program.Gift.{Gift}
 use Rattle.brace_model.specs.declared.program.State.{State}
 use Rattle.brace_model.specs.declared.program.Value.{Value}
 use Rattle.brace_model.specs.Value.{Scope, Worth, value}
-use Rattle.brace_model.specs.Next.{earlier_stop, first_stop, ruled}
-
--- the stop of the lesser site: of one, and of one that was met before it, if any was
-abbrev pub with_stop : Option Stop → Stop → Stop
-with_stop None stop = stop
-with_stop (Some met) stop = earlier_stop met stop
+use Rattle.brace_model.specs.Next.{first_stop, ruled}
 
 -- the stop of the least site, after some outcomes more
 abbrev pub Meets : List Worth → Option Stop → Option Stop → Type 0

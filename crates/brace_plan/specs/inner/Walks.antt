@@ -1,6 +1,6 @@
 -- Where the walk over an agent's actions stands, and what it adds to an answer. Only the crate's
 -- own functions cite this.
-use Rattle.std.specs.Prelude.{◌≡◌, ℕ, ◌<◌, ◌≤ℤ◌, List, [], ◌∷◌, ◌++◌, map, fold, filter, Bool, true, false, ◌&&◌, ◌==◌, Option, Some, None, is_some, not, option_map, slice_get, slice_set, slice_index_or, length, replicate, IfSome}
+use Rattle.std.specs.Prelude.{◌≡◌, ℕ, ◌<◌, ◌≤◌, ◌^◌, ◌≤ℤ◌, List, [], ◌∷◌, ◌++◌, map, fold, filter, Bool, true, false, ◌&&◌, ◌==◌, Option, Some, None, is_some, not, option_map, slice_get, slice_set, slice_index_or, length, replicate, IfSome}
 use Rattle.std.specs.List.{All, list_all}
 use Rattle.brace_num.specs.declared.kinds.Area.{Area}
 use Rattle.brace_model.specs.declared.program.Value.{Value}
@@ -40,6 +40,12 @@ pub record IsSeat (scene : Scene) (seat : Seat) : Type 0 where
   pub this : IsPlaced scene seat.this
   pub outer : IfSome seat.outer (IsPlaced scene)
   pub inner : IfSome seat.inner (IsPlaced scene)
+
+-- an agent asks from a seat over a scene, in a tick that a run can have
+pub record IsAsked (s : Scene) (from : Seat) : Type 0 where
+  pub scene : IsScene s
+  pub seat : IsSeat s from
+  pub ticks : s.tick ≤ 2 ^ 32
 
 -- the scope of a seat with these constants, and no totals
 abbrev pub scope_at : Scene → Seat → ℕ → List Value → Scope

@@ -4,8 +4,9 @@ use Rattle.brace_model.specs.World.{World, IsNumbered, world_with}
 use Rattle.brace_model.specs.Query.{said_in}
 use Rattle.brace_model.specs.Step.{grown}
 use Rattle.brace_eval.specs.Heard.{table_of}
-use Rattle.brace_eval.proofs.StepLemmas.{leaves-told, quiet-told, step-told}
+use Rattle.brace_eval.proofs.StepLemmas.{Leaves, leaves-told, quiet-told, step-told}
 use Rattle.brace_eval.proofs.NumberLemmas.{numbered_grown}
+use Rattle.brace_eval.proofs.step.plain_step.Goals.{In_ok-nexts}
 use Rattle.brace_eval.proofs.step.plain_step.Goals as goal
 
 abbrev failed : Fault → Result World Fault
@@ -21,12 +22,26 @@ updates-requires-clause-totals c =
     c.deref.ensures.value ∙ c.in_ok-heard.ensures.totals
     ∙ ap (λ (n : ℕ). table_of job.program (said_in job.program n c.args.tick agents) agents) (sym c.make-drawer.ensures)
 
+-- what is left of all agents
+left : (c : In_ok-nexts) → Leaves c.args.job.now.program c.args.job.now.seed c.args.tick
+    c.args.world.now.agents c.in_ok-nexts.nexts.living.items c.in_ok-nexts.nexts.born.items
+left c =
+    let job = c.args.job.now in
+    let nexts = c.in_ok-nexts.nexts in
+    leaves-told job.program job.seed c.args.tick c.args.world.now c.make-drawer.result.seed
+    c.agents-agents.result.now nexts.living.items nexts.born.items c.make-drawer.ensures
+    c.agents-agents.ensures.same
+    (record {
+      passes = c.in_ok-nexts.ensures.passes;
+      living = c.in_ok-nexts.ensures.living;
+      born = c.in_ok-nexts.ensures.born;
+    })
+
 pub returns-in-Some-first_too_far-clause-faulted : goal.returns-in-Some-first_too_far-clause-faulted
 returns-in-Some-first_too_far-clause-faulted c fault e =
     let job = c.args.job.now in
     let world = c.args.world.now in
-    let leaves = leaves-told job.program job.seed c.args.tick world c.make-drawer.result.seed c.agents-agents.result.now c.in_ok-nexts.nexts.living.items c.in_ok-nexts.nexts.born.items c.make-drawer.ensures c.agents-agents.ensures.same
-    (record { passes = c.in_ok-nexts.ensures.passes; living = c.in_ok-nexts.ensures.living; born = c.in_ok-nexts.ensures.born }) in
+    let leaves = left (goal.at.returns-in-Some-first_too_far-clause-faulted c).In_ok-nexts in
     let quiet = quiet-told job.program job.seed c.args.tick world c.agents-agents.result.now c.agents-agents.ensures.same
     (sym c.in_ok-heard.ensures.least ∙ c.in_default.is) in
     let told = step-told job.program job.seed c.args.tick world c.in_ok-nexts.nexts.living.items c.in_ok-nexts.nexts.born.items c.deref-2.result.now c.deref-3.result.now c.next.result (Some c.in-Some-first_too_far.child.now) quiet leaves
@@ -38,8 +53,7 @@ pub unreachable-requires : goal.unreachable-requires
 unreachable-requires c =
     let job = c.args.job.now in
     let world = c.args.world.now in
-    let leaves = leaves-told job.program job.seed c.args.tick world c.make-drawer.result.seed c.agents-agents.result.now c.in_ok-nexts.nexts.living.items c.in_ok-nexts.nexts.born.items c.make-drawer.ensures c.agents-agents.ensures.same
-    (record { passes = c.in_ok-nexts.ensures.passes; living = c.in_ok-nexts.ensures.living; born = c.in_ok-nexts.ensures.born }) in
+    let leaves = left (goal.at.unreachable-requires c).In_ok-nexts in
     let ls = c.in_ok-nexts.nexts.living.items in
     let bs = c.in_ok-nexts.nexts.born.items in
     let fits = c.in_default-first_too_far.ensures.fits in
@@ -58,8 +72,7 @@ pub returns-clause-stepped : goal.returns-clause-stepped
 returns-clause-stepped c =
     let job = c.args.job.now in
     let world = c.args.world.now in
-    let leaves = leaves-told job.program job.seed c.args.tick world c.make-drawer.result.seed c.agents-agents.result.now c.in_ok-nexts.nexts.living.items c.in_ok-nexts.nexts.born.items c.make-drawer.ensures c.agents-agents.ensures.same
-    (record { passes = c.in_ok-nexts.ensures.passes; living = c.in_ok-nexts.ensures.living; born = c.in_ok-nexts.ensures.born }) in
+    let leaves = left (goal.at.returns-clause-stepped c).In_ok-nexts in
     let quiet = quiet-told job.program job.seed c.args.tick world c.agents-agents.result.now c.agents-agents.ensures.same
     (sym c.in_ok-heard.ensures.least ∙ c.in_default.is) in
     let told = step-told job.program job.seed c.args.tick world c.in_ok-nexts.nexts.living.items c.in_ok-nexts.nexts.born.items c.deref-2.result.now c.deref-3.result.now c.next.result None quiet leaves

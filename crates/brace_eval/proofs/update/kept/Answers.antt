@@ -11,5 +11,5 @@ returns-in-Ok-clause-met c =
 
 pub returns-in-Err-clause-met : goal.returns-in-Err-clause-met
 returns-in-Err-clause-met c =
-    subst (λ (o : Worth). Meets (o ∷ []) c.args.first.now (Some c.with_earlier_stop.result)) (sym c.in-Err.is)
-    (subst (λ (s : Stop). Meets (Err c.in-Err.stop ∷ []) c.args.first.now (Some s)) (sym c.with_earlier_stop.ensures) (meets-err c.in-Err.stop c.args.first.now))
+    subst (λ (o : Worth). Meets (o ∷ []) c.args.first.now (Some c.with_stop.result)) (sym c.in-Err.is)
+    (subst (λ (s : Stop). Meets (Err c.in-Err.stop ∷ []) c.args.first.now (Some s)) (sym c.with_stop.ensures) (meets-err c.in-Err.stop c.args.first.now))

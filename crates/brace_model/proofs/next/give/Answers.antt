@@ -1,8 +1,8 @@
 use Rattle.std.proofs.Common.{refl}
 use Rattle.std.specs.Slice.Iter.{iter_rest}
 use Rattle.std.proofs.lemmas.Slice.Zip.{either_empty_from_Zip}
-use Rattle.brace_plan.proofs.LeaveLemmas.{all_given}
-use Rattle.brace_plan.proofs.leaving.give.Goals as goal
+use Rattle.brace_model.proofs.Gifts.{all_given}
+use Rattle.brace_model.proofs.next.give.Goals as goal
 
 pub returns : goal.returns
 returns c =

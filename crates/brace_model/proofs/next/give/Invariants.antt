@@ -1,7 +1,7 @@
 use Rattle.std.proofs.Common.{◌≡◌}
 use Rattle.std.specs.Slice.Iter.{iter_rest}
 use Rattle.brace_model.specs.Next.{with_gifts}
-use Rattle.brace_plan.proofs.leaving.give.Given as goal
+use Rattle.brace_model.proofs.next.give.Given as goal
 
 abbrev pub invariant-loop-gift : goal.invariant-loop-gift
 invariant-loop-gift l =
