@@ -9,9 +9,8 @@ use Rattle.brace_model.specs.declared.program.Value.{Value}
 use Rattle.brace_model.specs.declared.world.Agent.{Agent}
 use Rattle.brace_model.specs.Query.{Saying}
 use Rattle.brace_model.specs.Total.{identity, joined, said_to}
-use Rattle.brace_model.specs.declared.program.Comb.TheVariants.{Sum, Min, Max, Count, Or}
-use Rattle.brace_comb.specs.Totals.{Tally, brought, merged}
-use Rattle.brace_comb.proofs.Joins.{fold-counted, join-turn}
+use Rattle.brace_model.specs.declared.program.Comb.TheVariants.{Count}
+use Rattle.brace_comb.proofs.Joins.{fold-counted, turn}
 use Rattle.brace_comb.proofs.Permutations.{fold-IsPermutation}
 use Rattle.brace_comb.proofs.Said.{said_to-append}
 use Rattle.brace_fold.specs.declared.table.Table.{Table}
@@ -39,30 +38,6 @@ alike-append xs ys us vs h k = record {
       ∙ k.each comb (fold (joined comb) start (said_to id field ys)) id field
       ∙ sym (both comb start id field ys vs);
 }
-
-joined-merged : (comb : Comb) (t : ℤ) (v : Value) → joined comb t v ≡ merged comb t (brought comb v)
-joined-merged Sum t v = refl
-joined-merged Min t v = refl
-joined-merged Max t v = refl
-joined-merged Count t v = refl
-joined-merged Or t v = refl
-
-merged-turn : (comb : Comb) (a b c : ℤ) → merged comb (merged comb a b) c ≡ merged comb (merged comb a c) b
-merged-turn comb a b c =
-    let x : Tally = record { comb = comb; number = a; count = 0 } in
-    let y : Tally = record { comb = comb; number = b; count = 0 } in
-    let z : Tally = record { comb = comb; number = c; count = 0 } in
-    ap (λ (t : Tally). t.number) (join-turn x y z)
-
--- two values may change places
-turn : (comb : Comb) (t : ℤ) (x y : Value) → joined comb (joined comb t x) y ≡ joined comb (joined comb t y) x
-turn comb t x y =
-    let a = joined-merged comb t x in
-    let b = joined-merged comb t y in
-    let c = joined-merged comb (joined comb t x) y in
-    let d = joined-merged comb (joined comb t y) x in
-    let e = merged-turn comb t (brought comb x) (brought comb y) in
-    cc
 
 -- a value may change places with values behind it
 past : (comb : Comb) (t : ℤ) (x : Value) (vs : List Value) → fold (joined comb) (joined comb t x) vs ≡ joined comb (fold (joined comb) t vs) x

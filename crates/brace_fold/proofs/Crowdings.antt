@@ -248,9 +248,8 @@ same-words (w ∷ words) = ap (λ l. w ∷ l) (same-words words)
 
 -- whole numbers and fixed ones are their words
 pub number-words : (type : Ty) (words : List ℤ) → (type ≡ ty.Bool → ⊥) → words ≡ map (λ w. number (typed type w)) words
-number-words ty.Int words other = same-words words
-number-words ty.Fixed words other = same-words words
 number-words ty.Bool words other = absurd (other refl)
+number-words _ words other = same-words words
 
 pub value-set : (l : List Value) (n : ℕ) (v : Value) → n < length l → value_at (set l n v) n ≡ v
 value-set l n v low = unwrap_or-slice_get (set l n v) n no_value ∙ get_or-set_same l n v no_value low

@@ -49,12 +49,7 @@ entered-lane scene Outside lane place s b h got =
     subst (λ (t : Scope). IsLane scene Once (entered Outside lane place) t)
     (sym (ap (λ (o : Option Agent). if is_none o then record s { outer = Some b } else record s { inner = Some b }) empty))
     (record { tick = h.tick; seed = h.seed; this = h.this; outer = (b, refl, got); inner = h.inner; totals = h.totals })
-entered-lane scene Once lane place s b h got =
-    let taken : s.outer ≡ Some h.outer.0 = h.outer.1 in
-    subst (λ (t : Scope). IsLane scene Twice (record lane { inner = place }) t)
-    (sym (ap (λ (o : Option Agent). if is_none o then record s { outer = Some b } else record s { inner = Some b }) taken))
-    (record { tick = h.tick; seed = h.seed; this = h.this; outer = h.outer; inner = (b, refl, got); totals = h.totals })
-entered-lane scene Twice lane place s b h got =
+entered-lane scene _ lane place s b h got =
     let taken : s.outer ≡ Some h.outer.0 = h.outer.1 in
     subst (λ (t : Scope). IsLane scene Twice (record lane { inner = place }) t)
     (sym (ap (λ (o : Option Agent). if is_none o then record s { outer = Some b } else record s { inner = Some b }) taken))
@@ -62,8 +57,7 @@ entered-lane scene Twice lane place s b h got =
 
 entered-place : (depth : Depth) (lane : Lane) (place : ℕ) → (entered depth lane place).place ≡ lane.place
 entered-place Outside lane place = refl
-entered-place Once lane place = refl
-entered-place Twice lane place = refl
+entered-place _ lane place = refl
 
 either-inside : (s : Scope) (b : Agent) (there : Bool)
     → (if there then record s { outer = Some b } else record s { inner = Some b }).locals ≡ s.locals
@@ -106,13 +100,6 @@ all-this depth lane [] = refl
 all-this Outside lane (row ∷ near) = ap (λ l. lane.this ∷ l) (all-this Outside lane near)
 all-this Once lane (row ∷ near) = ap (λ l. lane.this ∷ l) (all-this Once lane near)
 all-this Twice lane (row ∷ near) = ap (λ l. lane.this ∷ l) (all-this Twice lane near)
-
--- one stretch more
-pub stretch_more : (before : List Stretch) (s : Stretch)
-    → spread (before ++ s ∷ []) ≡ spread before ++ replicate s.count s.row
-stretch_more before s =
-    flat_map-append (λ (x : Stretch). replicate x.count x.row) before (s ∷ [])
-    ∙ ap (λ l. spread before ++ l) (append-nil (replicate s.count s.row))
 
 -- a loop's step: one more stretch is that of the lanes that it adds
 pub stretches-more : (depth : Depth) (lane : Lane) (old new : List Lane) (near : List ℕ) (n : ℕ)
@@ -285,10 +272,7 @@ pub kept_inside : (old new : Entered)
 kept_inside old new same Outside =
     lanes-same old.count (Each old.this) (Each old.near) (Same 0) (Each old.place) (Each new.near)
     (Same 0) same (λ k low. refl)
-kept_inside old new same Once =
-    lanes-same old.count (Each old.this) (Each old.outer) (Each old.near) (Each old.place)
-    (Each old.outer) (Each new.near) (λ k low. refl) same
-kept_inside old new same Twice =
+kept_inside old new same _ =
     lanes-same old.count (Each old.this) (Each old.outer) (Each old.near) (Each old.place)
     (Each old.outer) (Each new.near) (λ k low. refl) same
 

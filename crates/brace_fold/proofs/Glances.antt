@@ -254,9 +254,8 @@ module _ (eye : Eye) (xs ys : List ℤ) (run : Run) (spots : List Spot)
 -- the one class of a program
 pub only : (classes : List Class) (own : Class) → length classes ≡ 1
     → own ≡ get_or classes 0 own → classes ≡ own ∷ []
-only [] own one is = absurd (omega (arith, one))
 only (c ∷ []) own one is = ap (λ (k : Class). k ∷ []) (sym is)
-only (c ∷ d ∷ classes) own one is = absurd (omega (arith, one))
+only _ own one is = absurd (omega (arith, one))
 
 wide : (spots : List Spot) (half : Spot → ℤ) (xs : List ℤ)
     → xs ≡ map half spots ++ replicate 4 (pos 0) → length xs ≡ length spots + 4

@@ -12,8 +12,9 @@ use Rattle.brace_model.specs.Query.{Saying}
 use Rattle.brace_model.specs.World.{class_of}
 use Rattle.brace_eval.specs.Heard.{row_of}
 use Rattle.brace_fold.specs.declared.columns.Columns.{Columns}
-use Rattle.brace_fold.specs.declared.renewal.Ground.{Ground}
+use Rattle.brace_fold.specs.declared.renewing.Ground.{Ground}
 use Rattle.brace_fold.specs.declared.renewal.Renewed.{Renewed}
+use Rattle.brace_fold.specs.declared.table.Table.{Table}
 use Rattle.brace_fold.specs.Asked.{by_row, no_agent}
 use Rattle.brace_fold.specs.Becoming.{AreLeft}
 use Rattle.brace_fold.specs.Rows.{AreMoved, rows_in}
@@ -101,17 +102,17 @@ module _ (program : Program) (seed tick : ℕ) (said : List Saying) where
         quiet = quiet-of program seed tick totals those h.left new.born.items nexts;
       }
 
-module _ (ground : Ground) (columns : Columns) where
+module _ (ground : Ground) (heard : Table) (columns : Columns) where
   pub rows-none : (rows : List ℕ) (renewed : Renewed) → rows ≡ []
-      → LeavesRows ground columns rows renewed renewed
+      → LeavesRows ground heard columns rows renewed renewed
   rows-none rows renewed none said are =
       subst (λ l. LeavesSome ground.plans.now ground.seed ground.tick said
       (by_row (rows_in ground.plans.now columns) l) renewed renewed) (sym none)
       (leaves-none ground.plans.now ground.seed ground.tick said renewed)
 
   pub rows-on : (these rest all : List ℕ) (a b c : Renewed) → these ++ rest ≡ all
-      → LeavesRows ground columns these a b → LeavesRows ground columns rest b c
-      → LeavesRows ground columns all a c
+      → LeavesRows ground heard columns these a b → LeavesRows ground heard columns rest b c
+      → LeavesRows ground heard columns all a c
   rows-on these rest all a b c split h k said are =
       leaves-on ground.plans.now ground.seed ground.tick said (rows_in ground.plans.now columns)
       these rest all a b c split (h said are) (k said are)

@@ -1,5 +1,5 @@
 -- The agents that columns have, row by row, and by rising id.
-use Rattle.std.proofs.Common.{◌≡◌, ◌∙◌, refl, sym, ap, ap₂, subst, ℕ, ◌<◌, ◌≤◌, ℤ, pos, true, false, List, [], ◌∷◌, map, length, get_or, slice_get, Option, Some, None, arith}
+use Rattle.std.proofs.Common.{◌≡◌, ◌∙◌, refl, sym, ap, ap₂, subst, ℕ, ◌<◌, ◌≤◌, ℤ, pos, true, false, List, [], ◌∷◌, ◌++◌, append-nil, map, length, get_or, slice_get, Option, Some, None, arith}
 use Rattle.std.specs.Prelude.{nat_eq, nat_le, unwrap_or}
 use Rattle.std.specs.Cmp.Lexicographic.{pointwise}
 use Rattle.std.specs.List.{All, IsDistinct, list_all}
@@ -26,7 +26,7 @@ use Rattle.brace_model.specs.Value.{typed}
 use Rattle.brace_model.specs.World.{RisesById, class_of, ids, no_value, number, value_at}
 use Rattle.brace_model.proofs.TypeLemmas.{one_type}
 use Rattle.brace_fold.specs.declared.columns.Columns.{Columns}
-use Rattle.brace_fold.specs.Rows.{AreColumns, AreMoved, AreRows, IsWide, by_id, row_in, rows_in, types_of, value_in, values_in, words_of}
+use Rattle.brace_fold.specs.Rows.{AreColumns, AreMoved, AreRows, HasRoom, IsWide, by_id, row_in, rows_in, types_of, value_in, values_in, words_of}
 use Rattle.brace_fold.specs.declared.order.Moved.{Moved}
 use Rattle.brace_fold.proofs.Crowdings.{got-mapped}
 use denote.Ref.{Bor}
@@ -196,6 +196,17 @@ are_rows program agents columns are wide lawful apart =
       apart = subst (λ l. IsDistinct nat_eq (ids l)) (sym same) apart;
       are = subst (λ l. AreColumns l columns) (sym same) are;
     }
+
+-- columns of agents that were just moved have these, as they are lent, and room for all states
+pub lent_are : (program : Program) (agents : List Agent) (rows : Moved) (columns : Columns)
+    → AreMoved (agents ++ []) rows → HasRoom program (length rows.states.items)
+    → ((l : List Agent) → AreMoved l rows → AreColumns l columns)
+    → length columns.states.now ≡ length rows.states.items
+    → AreColumns agents columns × IsWide program columns
+lent_are program agents rows columns moved wide are long = (
+  are agents (subst (λ l. AreMoved l rows) (append-nil agents) moved),
+  subst (HasRoom program) (sym long) wide,
+)
 
 -- agents in another order are the same by rising id
 pub by_id_moved : (agents rows : List Agent) → IsDistinct nat_eq (ids agents)

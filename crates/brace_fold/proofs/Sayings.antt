@@ -57,9 +57,8 @@ total-more comb type words i total next v low value before is =
 
 -- a word of a type that is no flag is its value's number
 kept : (type : Ty) (word : ℤ) → same_type type ty.Bool ≡ false → number (typed type word) ≡ word
-kept ty.Int word plain = refl
-kept ty.Fixed word plain = refl
 kept ty.Bool word plain = absurd (true≢false plain)
+kept _ word plain = refl
 
 -- the sum of one word more
 pub sum_more : (type : Ty) (words : List ℤ) (i : ℕ) (total next : ℤ) → same_type type ty.Bool ≡ false

@@ -161,30 +161,9 @@ fn take_between(
     Ok(())
 }
 
-/// Adds the numbers of the lanes from a place up to another whose words are on a side. The lanes
-/// are looked at one by one only where there is such a word.
-#[inline(always)]
-fn take_few(
-    set: bool,
-    words: &[i64],
-    from: u32,
-    next: u32,
-    numbers: &mut Vec<u32>,
-) -> Result<(), Redo>
-    requires rises { from ≤ next }
-    requires within { next ≤ length words.now }
-    ensures { OnOk result (AreTaken set words.now from numbers.old.items
-        → AreTaken set words.now next numbers.new.items) }
-{
-    if !any_on_side(set, words, from, next) {
-        return Ok(());
-    }
-    take_between(set, words, from, next, numbers)
-}
-
 /// The numbers of so many lanes whose words are on a side.
-// Inlined where the side is known. Eight lanes in turn, since few are set where a query looks at
-// agents more closely.
+// Inlined where the side is known. Eight lanes in turn, which are looked at one by one only where
+// there is such a word, since few are set where a query looks at agents more closely.
 #[inline(always)]
 fn taken_on(alloc: Global, set: bool, words: &[i64], count: u32) -> Result<Vec<u32>, Redo>
     requires { count ≡ length words.now }
@@ -195,7 +174,9 @@ fn taken_on(alloc: Global, set: bool, words: &[i64], count: u32) -> Result<Vec<u
     let mut numbers = Vec::with_capacity(alloc, words.len())?;
     let eights = count / 8;
     for eight in 0..eights {
-        take_few(set, words, 8 * eight, 8 * eight + 8, &mut numbers)?;
+        if any_on_side(set, words, 8 * eight, 8 * eight + 8) {
+            take_between(set, words, 8 * eight, 8 * eight + 8, &mut numbers)?;
+        }
     }
     take_between(set, words, 8 * eights, count, &mut numbers)?;
     Ok(numbers)

@@ -6,9 +6,9 @@ ghost use Rattle.brace_fold.specs.inner.Rulings.{AreBorn, child_of, given_at, is
 use crate::outcome::{Column, Outcome, is_set, value_in, word_value};
 use crate::rows::lane_at;
 use brace_code::{Lanes, Redo};
-use brace_model::{Agent, Class, Value, number, value_at};
+use brace_model::{Agent, Class, Value, child_with, number, value_at};
 use brace_num::{List, clamp};
-use brace_plan::{changed, gifts_of, give};
+use brace_plan::gifts_of;
 use std::alloc::Global;
 
 /// The states of an agent take the values of a row.
@@ -148,10 +148,7 @@ pub fn child(
     ensures { IfOk result (λ child. child ≡ child_of class.now gifts.now row a.now) }
 {
     let given = given_at(alloc, gifts, row)?;
-    let mut states = Vec::with_capacity(alloc, a.states.as_slice().len())?;
-    states.extend_from_slice(a.states.as_slice())?;
-    give(&mut states, gifts_of(&class.spawn), &given);
-    Ok(changed(a, class, states))
+    Ok(child_with(alloc, class, a, gifts_of(&class.spawn), &given)?)
 }
 
 /// The children of the agents of lanes.

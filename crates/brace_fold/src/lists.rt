@@ -33,7 +33,7 @@ pub fn columns_of(
 }
 
 /// A vector for states: that of an agent that is not needed any more, where there is one.
-fn vector_of(alloc: Global, used: Option<Agent>) -> Vec<Value> {
+pub fn vector_of(alloc: Global, used: Option<Agent>) -> Vec<Value> {
     match used {
         Some(agent) => agent.states.into_vec(),
         None => Vec::new(alloc),

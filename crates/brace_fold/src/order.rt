@@ -1,4 +1,4 @@
-ghost use Rattle.std.specs.Prelude.{◌≡◌, ◌<◌, ◌++◌, [], ◌∷◌, ℕ, List, Some, filter, if◌then◌else◌, length, map, nat_lt, replicate, slice_get, IfOk, IfSome, OnOk};
+ghost use Rattle.std.specs.Prelude.{◌≡◌, ◌<◌, ◌≤◌, ◌++◌, [], ◌∷◌, ℕ, List, Some, filter, if◌then◌else◌, length, map, nat_lt, replicate, slice_get, IfOk, IfSome, OnOk};
 ghost use Rattle.std.specs.List.{All, range_with_len};
 ghost use Rattle.brace_model.specs.declared.program.Program.{Program};
 ghost use Rattle.brace_model.specs.declared.world.Agent.{Agent};
@@ -161,6 +161,13 @@ pub fn item_within<T: Copy>(column: &[T], row: u32) -> T
     column[row as usize]
 }
 
+/// So many rows and some more, as those of others come behind a part's own.
+pub fn roomy(rows: usize) -> usize
+    ensures { rows ≤ result }
+{
+    rows.saturating_add(rows / 4)
+}
+
 /// What a column has in some rows.
 fn picked_each<T: Copy>(alloc: Global, column: &[T], rows: &[u32]) -> Result<Vec<T>, Redo>
     ensures { IfOk result (λ out. IsPicked rows.now column.now out.items) }
@@ -168,7 +175,7 @@ fn picked_each<T: Copy>(alloc: Global, column: &[T], rows: &[u32]) -> Result<Vec
     if !are_within(rows, column.len()) {
         return Err(Redo);
     }
-    let mut out = Vec::with_capacity(alloc, rows.len())?;
+    let mut out = Vec::with_capacity(alloc, roomy(rows.len()))?;
     for row in rows {
         out.push_reserved(item_within(column, *row));
     }
@@ -196,7 +203,7 @@ fn picked_all<T: Copy>(
 ) -> Result<Vec<T>, Redo>
     ensures { IfOk result (λ out. IsPicked (rows_along slices.now) column.now out.items) }
 {
-    let mut out = Vec::with_capacity(alloc, count)?;
+    let mut out = Vec::with_capacity(alloc, roomy(count))?;
     for slice in slices {
         push_between(column, slice, &mut out)?;
     }

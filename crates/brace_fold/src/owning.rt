@@ -7,15 +7,21 @@ ghost use Rattle.brace_fold.specs.Listed.{AreListed, agents_in};
 ghost use Rattle.brace_fold.specs.Rows.{AreMoved, rows_in, IsPicked};
 
 use crate::columns::{Columns, class_in, expect_wide, views};
-use crate::lists::agents_of;
+use crate::lists::{agents_of, vector_of};
 use crate::order::Moved;
 use crate::surviving::{agent_in, push_agent};
 use brace_code::Redo;
 use brace_model::{Agent, Program};
 use std::alloc::Global;
 
-/// The agent of a row.
-fn agent_at(alloc: Global, program: &Program, columns: &Columns, row: u32) -> Result<Agent, Redo>
+/// The agent of a row, with its states in the vector of an agent that is not needed any more.
+fn agent_at(
+    alloc: Global,
+    program: &Program,
+    columns: &Columns,
+    row: u32,
+    used: &mut Vec<Agent>,
+) -> Result<Agent, Redo>
     ensures { IfOk result (λ a. slice_get (rows_in program.now columns.now) row ≡ Some a) }
 {
     let Some(number) = class_in(columns, row) else {
@@ -24,24 +30,25 @@ fn agent_at(alloc: Global, program: &Program, columns: &Columns, row: u32) -> Re
     let Some(class) = program.classes.as_slice().get(number as usize) else {
         return Err(Redo);
     };
-    let values = Vec::with_capacity(alloc, class.states.as_slice().len())?;
+    let values = vector_of(alloc, used.pop());
     let agent = agent_in(class, number, columns, row, values)?;
     Ok(agent)
 }
 
-/// The agents of some rows.
+/// The agents of some rows, with their states in the vectors of agents that are not needed any more.
 fn picked_agents(
     alloc: Global,
     program: &Program,
     columns: &Columns,
     rows: &[u32],
+    used: &mut Vec<Agent>,
 ) -> Result<Vec<Agent>, Redo>
     ensures { IfOk result (λ agents. IsPicked rows.now (rows_in program.now columns.now)
         agents.items) }
 {
     let mut agents = Vec::with_capacity(alloc, rows.len())?;
     for row in rows {
-        let agent = agent_at(alloc, program, columns, *row)?;
+        let agent = agent_at(alloc, program, columns, *row, used)?;
         agents.push(agent)?;
     }
     Ok(agents)
@@ -57,18 +64,20 @@ impl Moved {
         Ok(agents)
     }
 
-    /// The agents of some rows.
+    /// The agents of some rows, with their states in the vectors of agents that are not needed any
+    /// more.
     pub fn agents_at(
         &self,
         alloc: Global,
         program: &Program,
         rows: &[u32],
+        used: &mut Vec<Agent>,
     ) -> Result<Vec<Agent>, Redo>
         ensures { IfOk result (λ agents. IsPicked rows.now (agents_in program.now self.now)
             agents.items) }
     {
         let states = views(alloc, &self.states)?;
-        let agents = picked_agents(alloc, program, &self.as_columns(&states), rows)?;
+        let agents = picked_agents(alloc, program, &self.as_columns(&states), rows, used)?;
         Ok(agents)
     }
 

@@ -17,9 +17,9 @@ use crate::columns::{Columns, expect_wide, views};
 use crate::drawn::{drawn_of, lent};
 use crate::groups::{by_class, first_group};
 use crate::leaving::lanes_set;
-use crate::order::Moved;
+use crate::order::{Moved, roomy};
 use crate::outcome::{Outcome, run_all, run_gifts};
-use crate::renewing::frame_of;
+use crate::renewing::{Ground, frame_of};
 use crate::rows::lanes_of;
 use crate::sites::rule_sites;
 use crate::surviving::{children_in, keep_rows};
@@ -35,16 +35,6 @@ use std::alloc::Global;
 pub struct Renewed {
     pub left: Moved,
     pub born: Vec<Agent>,
-}
-
-/// By what agents of a tick are renewed.
-#[derive(Clone, Copy)]
-struct Ground<'a> {
-    alloc: Global,
-    plans: &'a Plans,
-    seed: u64,
-    tick: u64,
-    said: &'a Table,
 }
 
 /// What the rules of a class of a number come to for agents that words are shown of, in a row each;
@@ -80,6 +70,7 @@ fn outcome_in(
 /// children are added.
 fn renew_some(
     ground: &Ground,
+    said: &Table,
     columns: &Columns,
     number: u32,
     rows: &[u32],
@@ -89,7 +80,7 @@ fn renew_some(
     requires ticks { ground.now.tick ≤ 2 ^ 32 }
     requires of_class { AreOfClass columns.now.classes.now number rows.now }
     ensures leaves { OnOk result
-        (LeavesRows ground.now columns.now rows.now renewed.old renewed.new) }
+        (LeavesRows ground.now said.now columns.now rows.now renewed.old renewed.new) }
     ensures wide { OnOk result
         (length renewed.new.left.states.items ≡ length renewed.old.left.states.items) }
 {
@@ -105,7 +96,7 @@ fn renew_some(
     let states = views(alloc, &picked.states)?;
     let these = picked.as_columns(&states);
     expect_wide(program, &these)?;
-    let sums = told_columns(alloc, own, ground.said, rows)?;
+    let sums = told_columns(alloc, own, said, rows)?;
     let totals = views(alloc, &sums)?;
     let mut sites = Vec::new(alloc);
     rule_sites(ruled.class, &mut sites)?;
@@ -128,6 +119,7 @@ fn renew_some(
 /// that live on and the children are added.
 fn renew_all(
     ground: &Ground,
+    said: &Table,
     columns: &Columns,
     rows: &[u32],
     renewed: &mut Renewed,
@@ -135,22 +127,17 @@ fn renew_all(
     requires rows { AreRows ground.now.plans.now columns.now }
     requires ticks { ground.now.tick ≤ 2 ^ 32 }
     ensures leaves { OnOk result
-        (LeavesRows ground.now columns.now rows.now renewed.old renewed.new) }
+        (LeavesRows ground.now said.now columns.now rows.now renewed.old renewed.new) }
     ensures wide { OnOk result
         (length renewed.new.left.states.items ≡ length renewed.old.left.states.items) }
 {
     let mut left = rows;
     while !left.is_empty() {
         let group = first_group(columns.classes, left)?;
-        renew_some(ground, columns, group.class, group.rows, renewed)?;
+        renew_some(ground, said, columns, group.class, group.rows, renewed)?;
         left = group.rest;
     }
     Ok(())
-}
-
-/// So many rows and some more, as guests come behind a part's own agents.
-fn roomy(rows: usize) -> usize {
-    rows.saturating_add(rows / 4)
 }
 
 /// Renews the agents of some rows of columns by what was said to them, with the draws of a seed:
@@ -181,7 +168,6 @@ pub fn renew_rows(
         plans,
         seed,
         tick,
-        said,
     };
     let none = Moved::with_room(alloc, columns.states.len(), roomy(rows.len()))?;
     let mut renewed = Renewed {
@@ -189,6 +175,6 @@ pub fn renew_rows(
         born: Vec::new(alloc),
     };
     let these = by_class(alloc, columns.classes, rows)?;
-    renew_all(&ground, columns, &these, &mut renewed)?;
+    renew_all(&ground, said, columns, &these, &mut renewed)?;
     Ok(renewed)
 }

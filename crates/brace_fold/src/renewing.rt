@@ -29,11 +29,11 @@ const FEW: usize = 16;
 
 /// By what agents of a tick are renewed.
 #[derive(Clone, Copy)]
-struct Ground<'a> {
-    alloc: Global,
-    plans: &'a Plans,
-    seed: u64,
-    tick: u64,
+pub struct Ground<'a> {
+    pub alloc: Global,
+    pub plans: &'a Plans,
+    pub seed: u64,
+    pub tick: u64,
 }
 
 /// What the rules of a class came to for so many of its agents, in a row each.

@@ -6,7 +6,7 @@ ghost use Rattle.brace_model.specs.Value.{Scope, typed};
 ghost use Rattle.brace_fold.specs.inner.Crowds.{IsScene, Stands, rows, spread};
 ghost use Rattle.brace_fold.specs.declared.scene.Scene.{Scene};
 ghost use Rattle.brace_model.specs.Total.{total_of};
-ghost use Rattle.brace_fold.specs.inner.Ears.{AreHeard, IsEar, hearing, row_of, is_there, told_at, told_by};
+ghost use Rattle.brace_fold.specs.inner.Ears.{AreHeard, IsEar, Listens, hearing, row_of, is_there, told_at, told_by};
 ghost use Rattle.brace_fold.specs.Hears.{Hears};
 ghost use Rattle.brace_fold.specs.Sums.{HasSums};
 
@@ -176,9 +176,7 @@ impl<'a> Scene<'a> {
         count: u32,
         heard: &mut Table,
     ) -> Result<(), Redo>
-        requires scene { IsScene self.now }
-        requires ear { IsEar self.now ear.now }
-        requires sums { HasSums heard.old ear.now.effect ear.now.first }
+        requires listens { Listens self.now ear.now heard.old }
         requires comb { comb ≡ ear.now.comb }
         ensures sums { OnOk result (HasSums heard.new ear.now.effect ear.now.first) }
         ensures hears { OnOk result ((a : Agent) (type : Ty) (words : List ℤ)
@@ -200,9 +198,7 @@ impl<'a> Scene<'a> {
         spoken: &S,
         heard: &mut Table,
     ) -> Result<(), Redo>
-        requires scene { IsScene self.now }
-        requires ear { IsEar self.now ear.now }
-        requires sums { HasSums heard.old ear.now.effect ear.now.first }
+        requires listens { Listens self.now ear.now heard.old }
         requires comb { S.joins spoken.now ≡ ear.now.comb }
         ensures { OnOk result (AreHeard self.now ear.now.effect (S.type_of spoken.now) hearers.now
             (S.reads spoken.now) heard.old heard.new) }
@@ -229,9 +225,7 @@ impl<'a> Scene<'a> {
         spoken: &S,
         heard: &mut Table,
     ) -> Result<(), Redo>
-        requires scene { IsScene self.now }
-        requires ear { IsEar self.now ear.now }
-        requires sums { HasSums heard.old ear.now.effect ear.now.first }
+        requires listens { Listens self.now ear.now heard.old }
         requires comb { S.joins spoken.now ≡ ear.now.comb }
         ensures { OnOk result (AreHeard self.now ear.now.effect (S.type_of spoken.now)
             (spread stretches.now) (S.reads spoken.now) heard.old heard.new) }
@@ -265,9 +259,7 @@ impl<'a> Scene<'a> {
         spoken: &S,
         heard: &mut Table,
     ) -> Result<(), Redo>
-        requires scene { IsScene self.now }
-        requires ear { IsEar self.now ear.now }
-        requires sums { HasSums heard.old ear.now.effect ear.now.first }
+        requires listens { Listens self.now ear.now heard.old }
         requires comb { S.joins spoken.now ≡ ear.now.comb }
         ensures { OnOk result (AreHeard self.now ear.now.effect (S.type_of spoken.now)
             (hearing hearers.entry) (S.reads spoken.now) heard.old heard.new) }
@@ -287,9 +279,7 @@ impl<'a> Scene<'a> {
         words: View,
         heard: &mut Table,
     ) -> Result<(), Redo>
-        requires scene { IsScene self.now }
-        requires ear { IsEar self.now ear.now }
-        requires sums { HasSums heard.old ear.now.effect ear.now.first }
+        requires listens { Listens self.now ear.now heard.old }
         ensures { OnOk result (AreHeard self.now ear.now.effect ty (hearing hearers.entry)
             words.entry heard.old heard.new) }
     {

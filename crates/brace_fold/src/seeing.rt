@@ -1,11 +1,10 @@
 ghost use Rattle.std.specs.Prelude.{◌≡◌, ℕ, ◌<◌, ◌≤◌, ◌+◌, ◌++◌, ◌∷◌, [], length, take, if◌then◌else◌, IfOk, OnOk};
 ghost use Rattle.std.specs.List.{list_all};
-ghost use Rattle.brace_plan.specs.Acts.{stands};
 ghost use Rattle.brace_fold.specs.inner.Sights.{Appended, found_around, found_in, is_found, is_seen, meets_cut, spots_along};
 
 use crate::cells::{Cells, Run, Runs, Spot};
 use brace_code::Redo;
-use brace_plan::{Axis, Side};
+use brace_plan::{Axis, Side, stands};
 
 /// A bound whose limit is known.
 #[derive(Clone, Copy, Drop)]
@@ -23,19 +22,6 @@ pub struct Eye {
     pub range: u64,
     pub class: u32,
     pub place: u32,
-}
-
-/// Whether a coordinate stands so to a limit.
-fn stands(side: Side, limit: i64, v: i64) -> bool
-    ensures { result ≡ stands side limit v }
-{
-    match side {
-        Side::Below => v < limit,
-        Side::AtMost => v <= limit,
-        Side::Above => limit < v,
-        Side::AtLeast => limit <= v,
-        Side::At => v == limit,
-    }
 }
 
 /// Whether an agent at a spot meets a cut.

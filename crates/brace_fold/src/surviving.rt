@@ -32,6 +32,7 @@ fn read_states(
 {
     values.clear();
     let states = own.states.as_slice();
+    values.reserve(states.len())?;
     for i in 0..states.len() {
         let Some(state) = states.get(i) else {
             return Err(Redo);

@@ -1,9 +1,8 @@
 -- What all parts give in all steps, kind by kind, is what the whole worlds say.
-use Rattle.std.proofs.Common.{◌≡◌, ◌∙◌, refl, sym, ap, ap₂, subst, ℕ, ◌+◌, ◌-◌, ◌<◌, ◌≤◌, List, [], ◌∷◌, ◌++◌, map, filter, flat_map, take, length, Bool, true, false, cond, not, ◌&&◌, ◌==◌, Ok, arith, append-nil, true≢false, take_all}
+use Rattle.std.proofs.Common.{◌≡◌, ◌∙◌, refl, sym, ap, ap₂, ℕ, ◌+◌, ◌-◌, ◌<◌, ◌≤◌, List, [], ◌∷◌, ◌++◌, map, filter, flat_map, take, length, Bool, true, false, cond, not, ◌&&◌, ◌==◌, Ok, arith, append-nil, true≢false, take_all}
 use Rattle.std.specs.Prelude.{sum, sum_by, nat_lt, if◌then◌else◌}
-use Rattle.std.specs.List.{Contains, range_with_len}
-use Rattle.std.proofs.lemmas.Bool.{and_right, eq-eqb}
-use Rattle.std.proofs.lemmas.List.FromFn.{length-range_with_len, get_or-range_with_len}
+use Rattle.std.specs.List.{range_with_len}
+use Rattle.std.proofs.lemmas.Bool.{and_right, eq-eqb, le-ltb}
 use Rattle.std.proofs.lemmas.List.Sums.{sum_by-cons, sum_by-append, sum-map}
 use Rattle.brace_core.proofs.CoreLaw.{sum_agree}
 use Rattle.brace_model.specs.Next.{has_births}
@@ -20,17 +19,12 @@ use Rattle.brace_pieces.specs.Counts.{agents_at, over_pairs, over_ticks, changin
 use Rattle.brace_pieces.proofs.CourseLemmas.{kept_more}
 use Rattle.brace_pieces.proofs.PlaceLemmas.{shape}
 use Rattle.brace_part.specs.Given.{lived, given_in, all_given}
-use Rattle.brace_part.proofs.SumLemmas.{sum_none, sum_same, sum_swap, sum_flat, sum_kept}
-use Rattle.brace_part.proofs.PartLemmas.{not_below}
+use Rattle.brace_part.proofs.SumLemmas.{sum_swap, sum_flat, sum_kept}
 use Rattle.brace_part.proofs.GaveLemmas.{meet_is, handed_changing, no_handed, no_border, no_shares, moved_changing, no_moved}
+use Rattle.brace_num.proofs.Lists.{sum_none, sum_alike}
+use Rattle.brace_num.proofs.Rows.{in_row}
 
 -- numbers from one on are so many less
-in_row : (n a q : ℕ) → Contains (range_with_len a n) q → (a ≤ q) × (q < a + n)
-in_row n a q (k, low, is) =
-    let long : k < n = subst (λ l. k < l) (length-range_with_len a n) low in
-    let there = sym (get_or-range_with_len a n k q long) ∙ is in
-    (omega (arith, there), omega (arith, there, long))
-
 module _ (s : Setting) where
   abbrev numbers : List ℕ
   numbers = range_with_len 0 (parts s)
@@ -43,7 +37,7 @@ module _ (s : Setting) where
   module _ (at : Step) (nothing_shown : is_show at.stage ≡ false) (p : ℕ) (part : p < parts s) where
     publisher : meet s at p (parts s) ≡ false
     publisher =
-        ap (λ v. not (p == parts s) && (if nat_lt p (parts s) && v then parts_meet s at p (parts s) else is_show at.stage)) (not_below (parts s))
+        ap (λ v. not (p == parts s) && (if nat_lt p (parts s) && v then parts_meet s at p (parts s) else is_show at.stage)) (le-ltb (parts s) (parts s) (omega arith))
         ∙ ap (λ v. not (p == parts s) && v) (if_none (nat_lt p (parts s)) (parts_meet s at p (parts s)) (is_show at.stage) ∙ nothing_shown)
         ∙ and_right (not (p == parts s)) false refl
       where
@@ -56,7 +50,7 @@ module _ (s : Setting) where
     over_met f none =
         ap (sum_by f) (kept_more (meet s at p) (parts s) ∙ ap (λ v. filter (meet s at p) numbers ++ cond v (parts s ∷ []) []) publisher ∙ append-nil (filter (meet s at p) numbers))
         ∙ sum_kept f (meet s at p) (λ q. not (p == q)) numbers (λ q has.
-        let (from, high) = in_row (parts s) 0 q has in
+        let (from, high) = in_row 0 (parts s) q has in
         let low : q < parts s = omega (arith, high) in
         ap (λ v. cond v (f q) 0) (meet_is s at p q part low) ∙ by_tests q (p == q) (parts_meet s at p q) refl refl (none q low))
       where
@@ -129,7 +123,7 @@ module _ (s : Setting) where
 
   -- in a step of another kind nothing is given
   none_given : (at : Step) → sum_by (λ p. sum_by (λ q. 0) (met s at p)) numbers ≡ 0
-  none_given at = sum_same (λ p. sum_by (λ q. 0) (met s at p)) (λ p. 0) numbers (λ p has. sum_none (met s at p)) ∙ sum_none numbers
+  none_given at = sum_alike (λ p. sum_by (λ q. 0) (met s at p)) (λ p. 0) numbers (λ p has. sum_none (met s at p)) ∙ sum_none numbers
 
   -- ---- kind by kind
 

@@ -23,8 +23,9 @@ use Rattle.brace_pieces.specs.Right.{StandsBefore, IsTold, IsRightCause, IsRight
 use Rattle.brace_pieces.proofs.ToldLemmas.{query_told, update_told, birth_told}
 use Rattle.brace_part.specs.Parts.{found_in_work, cause_of, IsCauseOf, IsCauseBehind, IsCauseOfAll}
 use Rattle.brace_part.specs.inner.Sound.{IsHalted}
-use Rattle.brace_part.proofs.StepLemmas.{OfRun, of_run}
+use Rattle.brace_pieces.proofs.StepLemmas.{OfRun, of_run}
 use Rattle.brace_part.proofs.OutLemmas.{right_in}
+use Rattle.brace_pieces.proofs.PlaceLemmas.{some_is}
 
 none_in : (f : Fault) → Contains [] f → ⊥
 none_in f (k, low, e) = omega (arith, low)
@@ -43,7 +44,6 @@ module _ (s : Setting) (lawful : LawfulSetting s) (p k : ℕ) where
   updates_told st t stands is f has = update_told s lawful t p (k + 1) f has (subst (λ x. StandsBefore s (step x t) (k + 1)) is (before st t stands))
 
   found_told : (st : Stage) (t : ℕ) → slice_get (steps s) k ≡ Some (step st t) → OfRun s st t → (f : Fault) → Contains (found_in_work s p st t) f → IsTold s (k + 1) f
-  found_told stage.Hand t stands run f has = absurd (none_in f has)
   found_told stage.Border t stands run f has =
       let updates : List Fault = if s.invert then updates_found s t p (on s t).agents else [] in
       ⊎_elim (λ (y : Contains (queries_found s t p (on s t).agents) f). query_told s lawful t p (k + 1) f y (before stage.Border t stands))
@@ -55,8 +55,7 @@ module _ (s : Setting) (lawful : LawfulSetting s) (p k : ℕ) where
       by_choice false is has = absurd (none_in f has)
   found_told stage.Effects t stands run f has = updates_told stage.Effects t stands (sym (ap (λ c. if c then stage.Border else stage.Effects) (run.apart refl))) f has
   found_told stage.Census t stands run f has = birth_told s t (k + 1) f has (before stage.Census t stands)
-  found_told stage.Move t stands run f has = absurd (none_in f has)
-  found_told stage.Show t stands run f has = absurd (none_in f has)
+  found_told _ t stands run f has = absurd (none_in f has)
 
   -- the cause that a work gives is right behind it
   pub cause_told : (at : Step) → slice_get (steps s) k ≡ Some at → (c : Cause) → IsCauseOf (found_in_work s p at.stage at.tick) c → IsRightCause s (k + 1) c
@@ -73,19 +72,11 @@ module _ (s : Setting) (lawful : LawfulSetting s) (p k : ℕ) where
 
 halt_at : (s : Setting) (k p q t : ℕ) (c : Cause) (st : Stage) → IsRightCause s k c → IsRightAt s k st t p q (piece.Halt c)
 halt_at s k p q t c stage.Hand right = right
-halt_at s k p q t c stage.Border right = right
-halt_at s k p q t c stage.Effects right = right
-halt_at s k p q t c stage.Census right = right
-halt_at s k p q t c stage.Move right = right
-halt_at s k p q t c stage.Show right = right
+halt_at s k p q t c _ right = right
 
 at_halt : (s : Setting) (k p q t : ℕ) (c : Cause) (st : Stage) → IsRightAt s k st t p q (piece.Halt c) → IsRightCause s k c
 at_halt s k p q t c stage.Hand right = right
-at_halt s k p q t c stage.Border right = right
-at_halt s k p q t c stage.Effects right = right
-at_halt s k p q t c stage.Census right = right
-at_halt s k p q t c stage.Move right = right
-at_halt s k p q t c stage.Show right = right
+at_halt s k p q t c _ right = right
 
 pub halt_right : (s : Setting) (k p q : ℕ) (at : Step) (c : Cause) → slice_get (steps s) k ≡ Some at → IsRightCause s k c → IsRight s (name k p q) (piece.Halt c)
 halt_right s k p q at c stands right = right_in s k p q at (piece.Halt c) stands (halt_at s k p q at.tick c at.stage right)
@@ -117,12 +108,9 @@ module _ (s : Setting) (p : ℕ) where
     | inr up ↦ at_last j there (omega (arith, low, up)) stands
   ]
     where
-      step_same : (a b : Step) → Some a ≡ Some b → a ≡ b
-      step_same a b e = cc
-
       at_last : (j : ℕ) (there : Step) → k ≡ j → slice_get (steps s) j ≡ Some there → IsCauseBehind s j (found_in_work s p there.stage there.tick) c
       at_last j there same stands =
-          let step_is : at ≡ there = step_same at there (sym is ∙ ap (slice_get (steps s)) same ∙ stands) in
+          let step_is : at ≡ there = some_is at there (sym is ∙ ap (slice_get (steps s)) same ∙ stands) in
           subst (λ (x : Step). IsCauseBehind s j (found_in_work s p x.stage x.tick) c) step_is
           (subst (λ n. IsCauseBehind s n (found_in_work s p at.stage at.tick) c) same here)
 

@@ -1,9 +1,9 @@
 -- A part's own agents and its guests in the order of cells, and agents that stand in some order.
-use Rattle.std.proofs.Common.{◌≡◌, ◌∙◌, refl, sym, ap, subst, ℕ, zero, suc, ◌+◌, ◌<◌, ◌≤◌, List, [], ◌∷◌, ◌++◌, filter, filter_map, flat_map, length, length-append, get_or, Bool, true, false, cond, Option, Some, None, arith}
+use Rattle.std.proofs.Common.{◌≡◌, ◌∙◌, refl, sym, ap, ap₂, subst, append-nil, false, ℕ, ◌+◌, ◌<◌, ◌≤◌, List, [], ◌∷◌, ◌++◌, filter, filter_map, flat_map, length, length-append, get_or, Bool, true, Option, Some, None, arith}
 use Rattle.std.specs.Prelude.{nat_lt, option_to_list}
 use Rattle.std.specs.List.{cons_option, list_all, range_with_len}
 use Rattle.std.specs.List.Sorted.{IsPermutation}
-use Rattle.std.proofs.lemmas.Bool.{lt-ltb, ltb-true}
+use Rattle.std.proofs.lemmas.Bool.{lt-ltb, le-ltb}
 use Rattle.std.proofs.lemmas.List.Sorted.{IsPermutation-append, IsPermutation-map, IsPermutation-refl}
 use Rattle.brace_model.specs.declared.program.Program.{Program}
 use Rattle.brace_model.specs.declared.world.Agent.{Agent}
@@ -15,7 +15,10 @@ use Rattle.brace_fold.specs.Listed.{AreListed, AreStored, agents_in}
 use Rattle.brace_fold.specs.Rows.{AreMoved, by_id}
 use Rattle.brace_fold.proofs.MoveLemmas.{rows-front}
 use Rattle.brace_fold.proofs.RowLemmas.{by_id_is, lawful_moved}
+use Rattle.std.proofs.lemmas.List.Elements.{filter-append}
+use Rattle.brace_num.proofs.Lists.{filter_all, filter_none}
 use Rattle.brace_num.proofs.Orders.{filter_rises}
+use Rattle.brace_num.proofs.Rows.{row_joined, row_alike}
 use Rattle.brace_cuts.specs.declared.space.Cuts.{Cuts}
 use Rattle.brace_pieces.specs.declared.setting.Setting.{Setting}
 use Rattle.brace_pieces.specs.Settings.{LawfulSetting}
@@ -30,32 +33,20 @@ use Rattle.brace_part.proofs.AskedLemmas.{filter_moved, flat_map_moved}
 abbrev below : ℕ → ℕ → Bool
 below n row = nat_lt row n
 
-not_so : (b : Bool) → (b ≡ true → ⊥) → b ≡ false
-not_so true h = absurd (h refl)
-not_so false h = refl
-
-past_end : (a m n : ℕ) → n ≤ a → filter (below n) (range_with_len a m) ≡ []
-past_end a zero n le = refl
-past_end a (suc m) n le =
-    let rest = filter (below n) (range_with_len (a + 1) m) in
-    ap (λ b. cond b (a ∷ rest) rest)
-    (not_so (nat_lt a n) (λ h. let less = ltb-true a n h in absurd (omega (arith, le, less))))
-    ∙ past_end (a + 1) m n (omega (arith, le))
+pub row_front : (f : ℕ → Bool) (a n m : ℕ) → ((r : ℕ) → a ≤ r → r < a + n → f r ≡ true)
+    → ((r : ℕ) → a + n ≤ r → r < a + n + m → f r ≡ false)
+    → filter f (range_with_len a (n + m)) ≡ range_with_len a n
+row_front f a n m kept gone =
+    ap (filter f) (sym (row_joined a n m))
+    ∙ filter-append f (range_with_len a n) (range_with_len (a + n) m)
+    ∙ ap₂ (λ xs ys. xs ++ ys)
+    (row_alike f (λ r. true) a n kept ∙ filter_all (range_with_len a n))
+    (row_alike f (λ r. false) (a + n) m gone ∙ filter_none (range_with_len (a + n) m))
+    ∙ append-nil (range_with_len a n)
 
 first_rows : (a n m : ℕ) → filter (below (a + n)) (range_with_len a (n + m)) ≡ range_with_len a n
-first_rows a zero m =
-    let none : zero + m ≡ m = omega arith in
-    ap (λ k. filter (below (a + zero)) (range_with_len a k)) none
-    ∙ past_end a m (a + zero) (omega arith)
-first_rows a (suc n) m =
-    let more : suc n + m ≡ suc (n + m) = omega arith in
-    let next : a + suc n ≡ (a + 1) + n = omega arith in
-    let less : a < a + suc n = omega arith in
-    let rest = filter (below (a + suc n)) (range_with_len (a + 1) (n + m)) in
-    ap (λ k. filter (below (a + suc n)) (range_with_len a k)) more
-    ∙ ap (λ b. cond b (a ∷ rest) rest) (lt-ltb a (a + suc n) less)
-    ∙ ap (λ l. a ∷ l) (ap (λ c. filter (below c) (range_with_len (a + 1) (n + m))) next
-    ∙ first_rows (a + 1) n m)
+first_rows a n m = row_front (below (a + n)) a n m (λ r low high. lt-ltb r (a + n) high)
+    (λ r low high. le-ltb r (a + n) low)
 
 -- the agents of the first rows are the first ones, in some order
 pub first_moved : (own guests : List Agent) (order : List ℕ)

@@ -12,12 +12,12 @@ use Rattle.brace_pieces.specs.Steps.{steps}
 use Rattle.brace_pieces.specs.Continued.{on}
 use Rattle.brace_part.specs.declared.query.Queries.{Queries}
 use Rattle.brace_part.specs.declared.standing.Stance.{Stance}
-use Rattle.brace_part.specs.declared.standing.Stance.TheVariants.{Owns, Hears, Holds, Leaves}
+use Rattle.brace_part.specs.declared.standing.Stance.TheVariants.{Owns}
 use Rattle.brace_part.specs.declared.standing.Standing.{Standing}
 use Rattle.brace_part.specs.Parts.{own_under, kept_at, found_in_work, keeps_before}
 use Rattle.brace_part.specs.inner.Ready.{IsReadyFor, IsReadyBehind, IsNextAt, next_behind, AreKept}
 use Rattle.brace_part.specs.inner.Sound.{IsPartOf, IsAtWork, ComesTo, owns_in}
-use Rattle.brace_part.proofs.StepLemmas.{of_run}
+use Rattle.brace_pieces.proofs.StepLemmas.{of_run}
 use Rattle.brace_pieces.proofs.EpochLemmas.{shown_behind}
 use Rattle.brace_part.proofs.NextLemmas.{ready_next, faultless_next, numbered_next, numbered_moved}
 use Rattle.brace_part.proofs.CellLemmas.{stored_are}
@@ -37,9 +37,7 @@ module _ (s : Setting) (p : ℕ) (t : ℕ) (low : s.job.first ≤ t) (next : ℕ
       (stored_are s.job.program _ own has
       ∙ sym (ap (λ cuts. own_under s p cuts (t + 1)) (shown_behind s (t + 1) t refl low)))
       next_is
-  note_right (Hears agents heard) has = absurd has
-  note_right (Holds held) has = absurd has
-  note_right (Leaves left born behind) has = absurd has
+  note_right _ has = absurd has
 
 -- worlds that it keeps stay so where it notes one more
 pub kept_more : (s : Setting) (p : ℕ) (old : List Shown) (x : Shown) (c : Bool) → AreKept s p old → x ≡ kept_at s p x.tick → AreKept s p (old ++ (if c then x ∷ [] else []))

@@ -28,14 +28,13 @@ use Rattle.brace_pieces.proofs.MoveLemmas.{owner_by_id, none_moved}
 use Rattle.brace_pieces.proofs.OnLemmas.{on_rises, on_whole, on_next}
 use Rattle.brace_pieces.proofs.HeardHere.{StandInside, whole_inside, told_same}
 use Rattle.brace_pieces.proofs.ScheduleLemmas.{parts_either_way}
-use Rattle.brace_part.proofs.SumLemmas.{kept_in, either_first, common, nothing_left}
+use Rattle.brace_part.proofs.SumLemmas.{either_first, common, nothing_left}
 use Rattle.brace_part.proofs.OutLemmas.{met_passes}
 use Rattle.brace_pieces.proofs.LimitLemmas.{on_numbered}
 use Rattle.brace_pieces.proofs.LivedLemmas.{lived_is}
 use Rattle.brace_part.specs.Given.{lived}
-use Rattle.brace_num.proofs.Lists.{filter_alike}
-use Rattle.brace_num.proofs.Orders.{rises_by_keys}
-use Rattle.brace_num.proofs.Orders.{filter_rises}
+use Rattle.brace_num.proofs.Lists.{filter_alike, in_filter}
+use Rattle.brace_num.proofs.Orders.{rises_by_keys, filter_rises}
 
 -- ---- two parts that do not meet
 
@@ -94,7 +93,7 @@ module _ (s : Setting) (lawful : LawfulSetting s) (numbers : NumbersFit s) (t : 
     no_handed none =
         let from : (r : ℕ) (x : Agent) → Contains (gone r q) x → owns m before r x ≡ true = λ r x has. (owned_too before r (owns m now q) x has).1.0 in
         nothing_left (λ r. gone r q) (gone q q) (owned m now q w) (met s (step Hand t) q) p (handed_together s lawful q part t w whole)
-        (λ x has. let (there, (owner, belongs)) = owned_too before p (owns m now q) x has in kept_in (owns m now q) w x there belongs)
+        (λ x has. let (there, (owner, belongs)) = owned_too before p (owns m now q) x has in in_filter (owns m now q) w x there belongs)
         (λ x has too. apart (one_owns m before p q x (from p x has) (from q x too)))
         (λ r x there has too. not_met s Hand t p q other part none r there (one_owns m before p r x (from p x has) (from r x too)))
 
@@ -105,7 +104,7 @@ module _ (s : Setting) (lawful : LawfulSetting s) (numbers : NumbersFit s) (t : 
         let close : Agent → Bool = is_near m (area_of now q) (range s) in
         let from : (r : ℕ) (x : Agent) → Contains (border s t r q w) x → owns m now r x ≡ true = λ r x has. (owned_too now r close x has).1.0 in
         nothing_left (λ r. border s t r q w) (owned m now q w) (held m now (range s) q w) (met s (step Border t) q) p (held_together s lawful q part t w whole)
-        (λ x has. let (there, (owner, near)) = owned_too now p close x has in kept_in close w x there near)
+        (λ x has. let (there, (owner, near)) = owned_too now p close x has in in_filter close w x there near)
         (λ x has too. apart (one_owns m now p q x (from p x has) (seen_in (owns m now q) w x too).1))
         (λ r x there has too. not_met s Border t p q other part none r there (one_owns m now p r x (from p x has) (from r x too)))
 

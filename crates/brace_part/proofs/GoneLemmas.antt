@@ -1,8 +1,8 @@
 -- A part behind its work in a step, and what it has to put before.
-use Rattle.std.proofs.Common.{◌≡◌, ◌∙◌, refl, sym, ap, subst, ℕ, zero, suc, ◌+◌, ◌-◌, ◌≤◌, List, [], ◌∷◌, take, drop, length, get_or, Option, Some, None, true, false, arith}
+use Rattle.std.proofs.Common.{◌≡◌, ◌∙◌, refl, sym, ap, subst, ℕ, ◌+◌, ◌-◌, ◌≤◌, List, [], ◌∷◌, take, drop, length, get_or, Option, Some, None, true, arith}
 use Rattle.std.specs.Prelude.{is_some}
 use Rattle.std.proofs.lemmas.Bool.{true≢false}
-use Rattle.std.proofs.lemmas.List.{length-append, length-drop}
+use Rattle.std.proofs.lemmas.List.{length-append, length-drop, take_all}
 use Rattle.brace_core.specs.declared.name.Name.{Name}
 use Rattle.brace_core.specs.declared.name.Turn.TheVariants as turn
 use Rattle.brace_core.specs.Schedule.{turn_at}
@@ -27,7 +27,8 @@ use Rattle.brace_part.specs.inner.Pieces.AreOut.{none_out, more_out}
 use Rattle.brace_part.specs.inner.Ready.{IsReady, IsNextAt, IsFaultlessAt, AreKept}
 use Rattle.brace_part.specs.inner.Sound.{GoesOn, IsAtWork, IsHalted, IsSound}
 use Rattle.brace_part.proofs.CauseLemmas.{halt_right, right_halt}
-use Rattle.brace_part.proofs.TurnLemmas.{PutsNext, TakesNext, WorksNext, take_of, take_named}
+use Rattle.brace_pieces.proofs.TurnLemmas.{PutsNext, TakesNext, WorksNext, take_of, take_named}
+use Rattle.brace_pieces.proofs.PlaceLemmas.{some_is}
 
 -- ---- before its work
 
@@ -69,12 +70,6 @@ took_next v w same h x take right =
 
 -- ---- at its work
 
-take_all : (n : ℕ) (xs : List ℕ) → length xs ≤ n → take n xs ≡ xs
-take_all zero [] high = refl
-take_all (suc n) [] high = refl
-take_all zero (x ∷ xs) high = absurd (omega (arith, high))
-take_all (suc n) (x ∷ xs) high = ap (λ l. x ∷ l) (take_all n xs (omega (arith, high)))
-
 module _ (c : OnCourse) (turn : WorksNext c) where
   pub at_work : (standing : Standing) → GoesOn c standing → IsAtWork c.setting c.actor c.number turn.at standing
   at_work standing h =
@@ -96,41 +91,18 @@ module _ (c : OnCourse) (turn : WorksNext c) where
   pub gone_is : gone_on c ≡ behind
   gone_is = goes_behind c turn.at turn.stands turn.high
 
-  pub sound_behind : (queries : Queries) (old new : Standing) (was is : Option Cause) (room places : ℕ) → IsSound c queries old was room
-      → (is ≡ None → GoesOn (gone_on c) new) → IsHalted c.setting (c.number + 1) is → IsCauseOfAll c.setting c.actor (c.number + 1) is → AreKept c.setting c.actor new.shown → places ≡ room → IsSound (gone_on c) queries new is places
-  sound_behind queries old new was is room places h goes halted found kept same =
-      subst (λ d. IsSound d queries new is places) (sym gone_is) (record {
-        is_part = h.is_part;
-        course = course_behind c h.course;
-        goes_on = λ none. subst (λ d. GoesOn d new) gone_is (goes none);
-        halted = halted;
-        found = found;
-        kept = kept;
-        has_room = subst (λ r. parts c.setting ≤ r) (sym same) h.has_room;
-      })
-
 -- a cause stays right
 pub halted_on : (s : Setting) (k : ℕ) (o : Option Cause) → IsHalted s k o → IsHalted s (k + 1) o
 halted_on s k None h = tt
 halted_on s k (Some x) h = right_later s k (k + 1) x (omega arith) h
 
-pub cause_none : (o : Option Cause) → is_some o ≡ false → o ≡ None
-cause_none None e = refl
-cause_none (Some x) e = absurd (true≢false e)
-
-pub no_cause : (o : Option Cause) → is_some o ≡ true → o ≡ None → ⊥
+pub no_cause : {A : Type 0} (o : Option A) → is_some o ≡ true → o ≡ None → ⊥
 no_cause o some none = true≢false (sym some ∙ ap is_some none)
 
 -- a piece that is no Halt
 pub goes_unless : (x : Piece) → ((c : Cause) → x ≡ piece.Halt c → ⊥) → pieces.GoesOn x
-goes_unless (piece.Border agents) other = tt
-goes_unless (piece.Effects entries) other = tt
-goes_unless (piece.Census births) other = tt
-goes_unless (piece.Move agents) other = tt
-goes_unless (piece.Hand agents) other = tt
-goes_unless (piece.Show worlds) other = tt
-goes_unless piece.Ack other = tt
 goes_unless (piece.Halt c) other = absurd (other c refl)
+goes_unless _ other = tt
 
 -- what a part that worked stands behind
 module _ (c : OnCourse) (d : OnCourse) (place : d ≡ gone_on c) (turn : WorksNext c) where
@@ -145,16 +117,19 @@ module _ (c : OnCourse) (d : OnCourse) (place : d ≡ gone_on c) (turn : WorksNe
 
   pub work_on : (k : ℕ) (at : Step) (standing : Standing) → k ≡ c.number → step_of c ≡ Some at → GoesOn c standing → IsAtWork d.setting d.actor k at standing
   work_on k at standing number is h =
-      let same : turn.at ≡ at = step_same turn.at at (sym turn.stands ∙ is) in
+      let same : turn.at ≡ at = some_is turn.at at (sym turn.stands ∙ is) in
       subst (λ x. IsAtWork x.setting x.actor k at standing) (sym place_is)
       (subst (λ n. IsAtWork c.setting c.actor n at standing) (sym number) (subst (λ a. IsAtWork c.setting c.actor c.number a standing) same (at_work c turn standing h)))
-    where
-      step_same : (a b : Step) → Some a ≡ Some b → a ≡ b
-      step_same a b e = cc
 
   pub sound_on : (queries : Queries) (old new : Standing) (was is : Option Cause) (room places : ℕ) → IsSound c queries old was room
       → (is ≡ None → GoesOn d new) → IsHalted c.setting (c.number + 1) is → IsCauseOfAll c.setting c.actor (c.number + 1) is → AreKept d.setting d.actor new.shown → places ≡ room → IsSound d queries new is places
   sound_on queries old new was is room places h goes halted found kept same =
-      subst (λ x. IsSound x queries new is places) (sym place)
-      (sound_behind c turn queries old new was is room places h (λ none. subst (λ x. GoesOn x new) place (goes none)) halted found
-      (subst (λ x. AreKept x.setting x.actor new.shown) place_is kept) same)
+      subst (λ x. IsSound x queries new is places) (sym place_is) (record {
+        is_part = h.is_part;
+        course = course_behind c h.course;
+        goes_on = λ none. subst (λ x. GoesOn x new) place_is (goes none);
+        halted = halted;
+        found = found;
+        kept = subst (λ x. AreKept x.setting x.actor new.shown) place_is kept;
+        has_room = subst (λ r. parts c.setting ≤ r) (sym same) h.has_room;
+      })

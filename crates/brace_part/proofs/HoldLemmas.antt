@@ -7,7 +7,7 @@ use Rattle.std.proofs.lemmas.Bool.{cases_lt}
 use Rattle.std.proofs.lemmas.List.Elements.{All-head, All-tail}
 use Rattle.std.proofs.lemmas.Option.{get_or_from_slice_get, same_Some, slice_get-get_or, slice_get-map, slice_get_read, slice_get_within}
 use Rattle.std.proofs.lemmas.Map.Keys.{apart_from_distinct}
-use Rattle.std.proofs.lemmas.List.{length-map}
+use Rattle.std.proofs.lemmas.List.{length-map, drop_more}
 use Rattle.brace_num.proofs.Orders.{pairs_differ}
 use Rattle.brace_model.specs.declared.program.Effect.{Effect}
 use Rattle.brace_model.specs.declared.program.Program.{Program}
@@ -30,7 +30,7 @@ use Rattle.brace_pieces.specs.declared.piece.Piece.TheVariants.{Effects}
 use Rattle.brace_part.specs.inner.Asked.{ArePlaces}
 use Rattle.brace_part.specs.inner.Tables.{IsSilent, TellsOf, TellsBy, TellBy, no_entry, one_entry, no_piece, one_piece}
 use Rattle.brace_part.proofs.TableShares.{Reads}
-use Rattle.brace_part.proofs.TableTells.{OneMore, entry_more, next_at, no_entries}
+use Rattle.brace_part.proofs.TableTells.{OneMore, entry_more, no_entries}
 
 -- the agent at a place
 pub stands_at : (all these : List Agent) (places : List ℕ) (k place : ℕ) (a : Agent)
@@ -220,7 +220,7 @@ module _ (program : Program) (rows : List Agent) (told : List Saying) (start : T
       joined_next before after (TellsBy program own (drop i entries))
       (TellsOf program own (get_or entries i d)) (TellsBy program own (drop (i + 1) entries))
       (λ rest t. entry_more program own (get_or entries i d) (drop (i + 1) entries) rest
-      (subst (λ (l : List Entry). TellsBy program own l rest) (next_at entries i d low) t))
+      (subst (λ (l : List Entry). TellsBy program own l rest) (drop_more entries i d low) t))
       hears so
 
   -- all is heard

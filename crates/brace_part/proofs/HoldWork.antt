@@ -1,5 +1,5 @@
 -- What a part holds in rows in a step, and what is left of its agents.
-use Rattle.std.proofs.Common.{◌≡◌, ◌∙◌, refl, sym, ap, subst, ℕ, ◌≤◌, ◌^◌, List, [], ◌∷◌, ◌++◌, map, filter, filter_map, flat_map, length, Bool, true, false, cond, Option, Some, None, Result, Ok, Err, IfOk, arith}
+use Rattle.std.proofs.Common.{◌≡◌, ◌∙◌, refl, sym, ap, subst, ℕ, ◌≤◌, ◌^◌, List, [], ◌∷◌, ◌++◌, map, filter, filter_map, flat_map, length, true, false, Option, Some, None, Result, Ok, Err, IfOk}
 use Rattle.std.specs.Prelude.{nat_eq}
 use Rattle.std.specs.List.{Contains, IsDistinct, list_all}
 use Rattle.std.specs.List.Sorted.{IsPermutation}
@@ -8,8 +8,8 @@ use Rattle.std.proofs.lemmas.Bool.{eqb-true, ne_eqb}
 use Rattle.std.proofs.lemmas.List.{length-map}
 use Rattle.std.proofs.lemmas.List.Elements.{filter-append}
 use Rattle.std.proofs.lemmas.List.Sorted.{IsPermutation-append, IsPermutation-map, IsPermutation-refl, IsPermutation-sym, IsPermutation-trans}
-use Rattle.brace_num.proofs.Lists.{in_more}
-use Rattle.brace_num.proofs.Orders.{filter_rises, keys_by_rises, one_moved, one_sorted, rises_by_keys, sorted_rises}
+use Rattle.brace_num.proofs.Lists.{map_alike, filter_alike, filter_none}
+use Rattle.brace_num.proofs.Orders.{by_key_keeps, by_key_rises, filter_rises, keys_by_rises, one_moved, one_sorted, rises_by_keys}
 use Rattle.brace_model.specs.declared.program.Program.{Program}
 use Rattle.brace_model.specs.declared.world.Agent.{Agent}
 use Rattle.brace_model.specs.declared.program.Class.{Class}
@@ -57,7 +57,7 @@ use Rattle.brace_part.proofs.CellLemmas.{both_moved, filter_map_moved}
 use Rattle.brace_part.proofs.SumsLemmas.{nothing_moved}
 use Rattle.brace_part.proofs.LawfulOn.{on_lawful, some_pass}
 use Rattle.brace_part.proofs.TableLeft.{becomes_row}
-use Rattle.brace_part.proofs.WorkHeard.{all_leave, becomes_asked, becomes_told, told_there, inside, mapped_alike, near_lawful, near_rises, rises, whole}
+use Rattle.brace_part.proofs.WorkHeard.{all_leave, becomes_asked, becomes_told, told_there, inside, near_lawful, near_rises, rises, whole}
 use Rattle.brace_part.proofs.WorkOwned.{near_moved}
 use Rattle.brace_part.proofs.WorkTaken.{effects_told}
 
@@ -71,17 +71,6 @@ apart_behind (x ∷ xs) ys apart = apart_behind xs ys apart.1
 pub ok_always : {X Y : Type 0} (r : Result X Y) (P : Type 0) → P → IfOk r (λ x. P)
 ok_always (Ok x) P h = h
 ok_always (Err e) P h = tt
-
-none_of : (test : Agent → Bool) (xs : List Agent) → ((a : Agent) → Contains xs a → test a ≡ false)
-    → filter test xs ≡ []
-none_of test [] none = refl
-none_of test (x ∷ xs) none = skipped (test x) (none x (0, omega arith, refl))
-    (none_of test xs (λ a h. none a (in_more x xs a h)))
-  where
-    skipped : (b : Bool) → b ≡ false → filter test xs ≡ []
-        → cond b (x ∷ filter test xs) (filter test xs) ≡ []
-    skipped true is rest = absurd (cc)
-    skipped false is rest = rest
 
 module _ (worker : Worker) (part : IsWorker worker) (t : ℕ) where
   abbrev s : Setting
@@ -149,19 +138,15 @@ module _ (worker : Worker) (part : IsWorker worker) (t : ℕ) where
   -- its agents and those that pieces bring
   is_held : (pieces : List Piece) (own guests : List Agent)
       → IsWork worker stage.Border t pieces → own ≡ mine s p t
-      → IsSorted (flat_map brought pieces) guests → IsHeld s p t own guests
-  is_held pieces own guests work same sorted =
-      let id : Agent → ℕ = λ a. a.id in
+      → IsPermutation (flat_map brought pieces) guests → IsHeld s p t own guests
+  is_held pieces own guests work same gathered =
       let many : IsPermutation (own ++ flat_map brought pieces) all =
       near_moved worker part t pieces own work same in
-      let moved = IsPermutation-trans _ _ _ (IsPermutation-append own own guests
-      (flat_map brought pieces) (IsPermutation-refl own)
-      (IsPermutation-sym _ _ sorted.same)) many in
-      let apart = rows_apart all (own ++ guests) all_rise (IsPermutation-sym _ _ moved) in
       record {
         own_is = same;
-        rises = sorted_rises id guests (apart_behind own guests apart) sorted.in_order;
-        moved = moved;
+        moved = IsPermutation-trans _ _ _ (IsPermutation-append own own guests
+            (flat_map brought pieces) (IsPermutation-refl own)
+            (IsPermutation-sym _ _ gathered)) many;
       }
 
   module _ (own guests : List Agent) (h : IsHeld s p t own guests) where
@@ -177,19 +162,23 @@ module _ (worker : Worker) (part : IsWorker worker) (t : ℕ) where
 
     -- those of another part
     pub held_of : (q : ℕ) → (p ≡ q → ⊥)
-        → owned m (cuts_of s t) q guests ≡ owned m (cuts_of s t) q all
+        → owned m (cuts_of s t) q (by_id guests) ≡ owned m (cuts_of s t) q all
     held_of q other =
         let theirs = owns m (cuts_of s t) q in
         let none : owned m (cuts_of s t) q own ≡ [] =
-        ap (owned m (cuts_of s t) q) h.own_is ∙ none_of theirs (mine s p t)
-        (λ a there. not_theirs q other a there) in
+        ap (owned m (cuts_of s t) q) h.own_is ∙ filter_alike theirs (λ a. false) (mine s p t)
+        (λ a there. not_theirs q other a there) ∙ filter_none (mine s p t) in
         let moved : IsPermutation (filter theirs guests) (filter theirs all) =
         subst (λ l. IsPermutation l (filter theirs all))
         (filter-append theirs own guests ∙ ap (λ l. l ++ filter theirs guests) none)
         (filter_moved theirs (own ++ guests) all h.moved) in
         let id : Agent → ℕ = λ a. a.id in
-        one_moved id (filter theirs guests) (filter theirs all) moved
-        (filter_rises id theirs guests h.rises) (filter_rises id theirs all all_rise)
+        one_moved id (filter theirs (by_id guests)) (filter theirs all)
+        (IsPermutation-trans _ _ _ (IsPermutation-sym _ _
+        (filter_moved theirs guests (by_id guests) (by_key_keeps id guests))) moved)
+        (filter_rises id theirs (by_id guests)
+        (by_key_rises id guests (apart_behind own guests held_apart)))
+        (filter_rises id theirs all all_rise)
 
   -- all that it holds in columns, by rising id
   pub merged_is : (rows : Moved) → AreHeld s p t rows → (agents list : List Agent)
@@ -220,7 +209,7 @@ module _ (worker : Worker) (part : IsWorker worker) (t : ℕ) where
     results : map (becomes_said plans s.job.seed t h.told)
         (mine s p t) ≡ map (becomes s t (said s t (on s t).agents)) (mine s p t)
     results =
-        mapped_alike (becomes_said plans s.job.seed t h.told)
+        map_alike (becomes_said plans s.job.seed t h.told)
         (becomes s t (said s t (on s t).agents)) (mine s p t)
         (λ a there.
         rules.next s.job.seed t (row_of plans h.told a) a
@@ -260,16 +249,16 @@ module _ (worker : Worker) (part : IsWorker worker) (t : ℕ) where
   -- its own agents and those that pieces bring in columns
   pub rows_held : (pieces : List Piece) (none guests more : List Agent) (count : ℕ)
       (own rows : Moved) → IsWork worker stage.Border t pieces → none ≡ []
-      → IsSorted (none ++ flat_map brought pieces) guests
+      → IsPermutation (none ++ flat_map brought pieces) guests
       → (stored : AreStored m (mine s p t) own) → count ≡ length own.ids.items → more ≡ guests
       → ((agents : List Agent) → AreMoved agents own → AreMoved (agents ++ more) rows)
       → ((agents : List Agent) → AreMoved agents rows → list_all (is_lawful_agent m) agents ≡ true
       → AreListed m agents rows)
       → IsHeld s p t (mine s p t) guests × (count ≡ length stored.those)
       × AreListed m (stored.those ++ guests) rows
-  rows_held pieces none guests more count own rows work empty sorted stored many same moves reads =
+  rows_held pieces none guests more count own rows work empty got stored many same moves reads =
       let held = is_held pieces (mine s p t) guests work refl
-      (subst (λ l. IsSorted (l ++ flat_map brought pieces) guests) empty sorted) in
+      (subst (λ l. IsPermutation (l ++ flat_map brought pieces) guests) empty got) in
       let those = stored.those in
       let moved = subst (λ l. AreMoved (those ++ l) rows) same
       (moves those stored.listed.moved) in (

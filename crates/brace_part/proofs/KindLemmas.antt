@@ -15,50 +15,25 @@ use Rattle.brace_part.specs.inner.Pieces.{GoesOn}
 module _ (s : Setting) (k t p q : ℕ) (P : Piece → Type 0) where
   pub border_alone : ((agents : List Agent) → agents ≡ border s t p q (on s t).agents → P (piece.Border agents)) → (x : Piece) → IsRightAt s k stage.Border t p q x → GoesOn x → P x
   border_alone each (piece.Border agents) right goes = each agents right
-  border_alone each (piece.Effects entries) right goes = absurd right
-  border_alone each (piece.Census c) right goes = absurd right
-  border_alone each (piece.Move agents) right goes = absurd right
-  border_alone each (piece.Hand agents) right goes = absurd right
-  border_alone each (piece.Show list) right goes = absurd right
-  border_alone each piece.Ack right goes = absurd right
   border_alone each (piece.Halt c) right goes = absurd goes
+  border_alone each _ right goes = absurd right
 
   pub hand_alone : ((agents : List Agent) → agents ≡ handed s t p q (on s t).agents → P (piece.Hand agents)) → (x : Piece) → IsRightAt s k stage.Hand t p q x → GoesOn x → P x
   hand_alone each (piece.Hand agents) right goes = each agents right
-  hand_alone each (piece.Border agents) right goes = absurd right
-  hand_alone each (piece.Effects entries) right goes = absurd right
-  hand_alone each (piece.Census c) right goes = absurd right
-  hand_alone each (piece.Move agents) right goes = absurd right
-  hand_alone each (piece.Show list) right goes = absurd right
-  hand_alone each piece.Ack right goes = absurd right
   hand_alone each (piece.Halt c) right goes = absurd goes
+  hand_alone each _ right goes = absurd right
 
   pub move_alone : ((agents : List Agent) → agents ≡ moved s t p q (on s t) → P (piece.Move agents)) → (x : Piece) → IsRightAt s k stage.Move t p q x → GoesOn x → P x
   move_alone each (piece.Move agents) right goes = each agents right
-  move_alone each (piece.Border agents) right goes = absurd right
-  move_alone each (piece.Effects entries) right goes = absurd right
-  move_alone each (piece.Census c) right goes = absurd right
-  move_alone each (piece.Hand agents) right goes = absurd right
-  move_alone each (piece.Show list) right goes = absurd right
-  move_alone each piece.Ack right goes = absurd right
   move_alone each (piece.Halt c) right goes = absurd goes
+  move_alone each _ right goes = absurd right
 
   pub effects_alone : ((entries : List Entry) → map share_of entries ≡ shares s t p q (on s t).agents → P (piece.Effects entries)) → (x : Piece) → IsRightAt s k stage.Effects t p q x → GoesOn x → P x
   effects_alone each (piece.Effects entries) right goes = each entries right
-  effects_alone each (piece.Border agents) right goes = absurd right
-  effects_alone each (piece.Census c) right goes = absurd right
-  effects_alone each (piece.Move agents) right goes = absurd right
-  effects_alone each (piece.Hand agents) right goes = absurd right
-  effects_alone each (piece.Show list) right goes = absurd right
-  effects_alone each piece.Ack right goes = absurd right
   effects_alone each (piece.Halt c) right goes = absurd goes
+  effects_alone each _ right goes = absurd right
 
   pub census_alone : ((c : Census) → c ≡ census s t p (on s t).agents → P (piece.Census c)) → (x : Piece) → IsRightAt s k stage.Census t p q x → GoesOn x → P x
   census_alone each (piece.Census c) right goes = each c right
-  census_alone each (piece.Border agents) right goes = absurd right
-  census_alone each (piece.Effects entries) right goes = absurd right
-  census_alone each (piece.Move agents) right goes = absurd right
-  census_alone each (piece.Hand agents) right goes = absurd right
-  census_alone each (piece.Show list) right goes = absurd right
-  census_alone each piece.Ack right goes = absurd right
   census_alone each (piece.Halt c) right goes = absurd goes
+  census_alone each _ right goes = absurd right

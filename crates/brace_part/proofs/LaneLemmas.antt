@@ -4,7 +4,7 @@ use Rattle.std.proofs.Common.{◌≡◌, ◌∙◌, refl, sym, ap, ap₂, subst,
 use Rattle.std.specs.Prelude.{slice_get, option_map}
 use Rattle.std.proofs.lemmas.List.{map-append}
 use Rattle.std.proofs.lemmas.List.Elements.{All-nil, All-cons}
-use Rattle.std.proofs.lemmas.Option.{slice_get_within, slice_get-map, get_or_from_slice_get}
+use Rattle.std.proofs.lemmas.Option.{slice_get_within, get_or_from_slice_get}
 use Rattle.brace_num.proofs.Lists.{flat_map_alike, same_parts}
 use Rattle.brace_model.specs.declared.program.Class.{Class}
 use Rattle.brace_model.specs.declared.program.Program.{Program}
@@ -15,11 +15,12 @@ use Rattle.brace_model.specs.World.{class_of}
 use Rattle.brace_model.specs.Query.{Saying}
 use Rattle.brace_model.specs.Total.{totals_from}
 use Rattle.brace_eval.specs.declared.heard.Heard.{Heard}
-use Rattle.brace_eval.specs.Heard.{IsHeard, table_of, row_of, effects_in, counted, counting_class, counting, said_by, faults_by}
+use Rattle.brace_eval.specs.Heard.{IsHeard, table_of, row_of, effects_in, counted, counting, said_by, faults_by}
 use Rattle.brace_fold.specs.Asked.{agents_at}
 use Rattle.brace_invert.specs.Split.{with_query, with_queries}
 use Rattle.brace_invert.proofs.Inverting.{class_same}
 use Rattle.brace_part.specs.inner.Asked.{ArePlaces, HaveEffectsOf}
+use Rattle.brace_eval.proofs.CountLemmas.{counted-effects}
 
 -- ---- agents by their places
 
@@ -49,16 +50,9 @@ module _ (held : List Agent) where
 
 -- ---- classes with the same effects
 
-counted_effects : (o : Option Class) → effects_in (option_map counting_class o) ≡ map counted (effects_in o)
-counted_effects None = refl
-counted_effects (Some c) = refl
-
-counts_of : (p : Program) (a : Agent) → effects_in (class_of (counting p) a) ≡ map counted (effects_in (class_of p a))
-counts_of p a = ap effects_in (slice_get-map counting_class p.classes a.class) ∙ counted_effects (class_of p a)
-
 module _ (m p : Program) (same : HaveEffectsOf m p) where
   counts_same : HaveEffectsOf (counting m) (counting p)
-  counts_same a = counts_of p a ∙ ap (map counted) (same a) ∙ sym (counts_of m a)
+  counts_same a = counted-effects p a ∙ ap (map counted) (same a) ∙ sym (counted-effects m a)
 
   same_too : HaveEffectsOf p m
   same_too a = sym (same a)

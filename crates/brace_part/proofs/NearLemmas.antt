@@ -1,30 +1,37 @@
 -- Which agents in columns stand near an area, and which of them a part owns.
-use Rattle.std.proofs.Common.{◌≡◌, ◌∙◌, refl, sym, ap, ap₂, subst, ℕ, ◌+◌, ◌<◌, ◌≤◌, ℤ, pos, negsuc, ◌+ℤ◌, ◌-ℤ◌, ◌≤ℤ◌, FitsSigned, w64, int_le, Bool, true, false, ◌&&◌, cond, List, [], ◌∷◌, ◌++◌, map, filter, take, length, get_or, slice_get, Option, Some, None, arith}
-use Rattle.std.specs.Prelude.{option_map, if◌then◌else◌, ◌==◌}
+use Rattle.std.proofs.Common.{◌≡◌, ◌∙◌, refl, sym, ap, ap₂, subst, ℕ, zero, suc, ◌+◌, ◌<◌, ◌≤◌, ℤ, pos, negsuc, ◌+ℤ◌, ◌-ℤ◌, ◌≤ℤ◌, FitsSigned, w64, int_le, Bool, true, false, ◌&&◌, cond, List, [], ◌∷◌, ◌++◌, map, filter, take, length, get_or, slice_get, Option, Some, None, arith}
+use Rattle.std.specs.Prelude.{nat_eq, option_map, if◌then◌else◌, ◌==◌}
 use Rattle.std.specs.Int.{int_max, saturate_signed}
-use Rattle.std.specs.List.{All}
+use Rattle.std.specs.List.{All, IsDistinct}
+use Rattle.std.specs.List.Sorted.{IsNonDecreasingBy, IsPermutation}
 use Rattle.std.proofs.lemmas.Bool.{and_parts, and_from, eq-eqb, eqb-true}
 use Rattle.std.proofs.lemmas.Int.{ints}
-use Rattle.std.proofs.lemmas.List.{map-append, take_more}
-use Rattle.std.proofs.lemmas.List.Elements.{All-nil, All-cons, All-append, All-contains, filter-append}
+use Rattle.std.proofs.lemmas.List.{get_or-map, length-map, map-append, take_more}
+use Rattle.std.proofs.lemmas.List.Elements.{All-nil, All-cons, All-head, All-tail, All-append, All-contains, filter-append}
+use Rattle.std.proofs.lemmas.List.Sorted.{All-permutation, IsNonDecreasingBy-from_default, IsPermutation-map}
 use Rattle.std.proofs.lemmas.List.Sums.{count_by-le-length, length-filter}
-use Rattle.std.proofs.lemmas.Option.{same_Some, slice_get-map}
+use Rattle.std.proofs.lemmas.Option.{same_Some, slice_get-get_or, slice_get-map}
 use Rattle.brace_num.specs.declared.kinds.Area.{Area}
 use Rattle.brace_num.specs.Areas.{gap_to, outside}
-use Rattle.brace_num.proofs.Lists.{filter_alike, same_parts}
+use Rattle.brace_num.proofs.Lists.{filter_alike}
+use Rattle.brace_num.proofs.Orders.{by_key_sorted}
 use Rattle.brace_num.proofs.Numbers.{below_max, le_holds, le_told, max_within, within_max}
 use Rattle.brace_model.specs.declared.program.Class.{Class}
 use Rattle.brace_model.specs.declared.program.Program.{Program}
 use Rattle.brace_model.specs.declared.world.Agent.{Agent}
-use Rattle.brace_model.specs.World.{class_of, number, value_at, x_of, y_of}
+use Rattle.brace_model.specs.World.{class_of, ids, number, value_at, x_of, y_of}
 use Rattle.brace_cuts.specs.Space.{LawfulCuts, area_of, owner_of, parts_of}
 use Rattle.brace_cuts.specs.declared.space.Cuts.{Cuts}
 use Rattle.brace_cuts.proofs.Areas.{owner_only}
 use Rattle.brace_fold.specs.declared.order.Moved.{Moved}
-use Rattle.brace_fold.specs.Rows.{AreMoved}
+use Rattle.brace_fold.specs.Asked.{by_row, no_agent}
+use Rattle.brace_fold.specs.Rows.{AreMoved, by_id}
+use Rattle.brace_fold.proofs.MoveLemmas.{picked-within}
+use Rattle.brace_fold.proofs.Ownings.{picked-row}
 use Rattle.brace_invert.specs.Held.{is_near, stands_near}
 use Rattle.brace_pieces.specs.Owned.{owned, owns, owns_at}
 use Rattle.brace_part.specs.declared.near.Axes.{Axes}
+use Rattle.brace_part.specs.inner.Asked.{ArePlaces}
 use Rattle.brace_part.specs.inner.Near.{AreAxes, AreNear, StandsFit, stands_fit}
 
 -- ---- a number within a range of a span
@@ -174,19 +181,67 @@ module _ (program : Program) (area : Area) (range : ℤ) (agents : List Agent) w
 
 -- ---- agents by their places
 
--- one list of agents at places
-pub one_list : (found these : List Agent) → map Some found ≡ map Some these → found ≡ these
-one_list [] [] e = refl
-one_list [] (a ∷ these) e = absurd (let none : [] ≡ Some a ∷ map Some these = e in cc)
-one_list (b ∷ found) [] e = absurd (let none : Some b ∷ map Some found ≡ [] = e in cc)
-one_list (b ∷ found) (a ∷ these) e =
-    let (here, rest) = same_parts (Some b) (Some a) (map Some found) (map Some these) e in
-    ap₂ (λ (x : Agent) l. x ∷ l) (same_Some b a here) (one_list found these rest)
+-- the id of a row
+id_there : (agents : List Agent) (row : ℕ)
+    → get_or (map (λ (a : Agent). a.id) agents) row 0 ≡ (get_or agents row no_agent).id
+id_there [] row = refl
+id_there (a ∷ agents) zero = refl
+id_there (a ∷ agents) (suc row) = id_there agents row
+
+-- agents of rows by rising id stand so
+pub rows_rise : (agents : List Agent) (all rows : List ℕ) → all ≡ ids agents
+    → IsNonDecreasingBy (λ row. get_or all row 0) rows
+    → IsNonDecreasingBy (λ (a : Agent). a.id) (by_row agents rows)
+rows_rise agents all rows are rise =
+    let at : ℕ → Agent = λ row. get_or agents row no_agent in
+    let key : (k : ℕ) → k < length rows
+    → get_or all (get_or rows k 0) 0 ≡ (get_or (by_row agents rows) k (at 0)).id =
+    λ k low. ap (λ l. get_or l (get_or rows k 0) 0) are ∙ id_there agents (get_or rows k 0)
+    ∙ ap (λ (a : Agent). a.id) (sym (get_or-map at rows k 0 (at 0) low)) in
+    IsNonDecreasingBy-from_default (λ (a : Agent). a.id) (by_row agents rows) (at 0)
+    (λ i j le lt.
+    let low : j < length rows = omega (arith, lt, length-map rows at) in
+    let below : get_or all (get_or rows i 0) 0 ≤ get_or all (get_or rows j 0) 0 =
+    rise i j 0 le low in
+    omega (arith, below, key i (omega (arith, le, low)), key j low))
+
+-- rows within a list are those of some of its agents
+rows_there : (agents : List Agent) (rows : List ℕ) → All (λ row. row < length agents) rows
+    → ArePlaces agents (by_row agents rows) rows
+rows_there agents [] within = refl
+rows_there agents (row ∷ rows) within =
+    ap₂ (λ (o : Option Agent) l. o ∷ l)
+    (slice_get-get_or agents row no_agent
+    (All-head (λ n. n < length agents) row rows within))
+    (rows_there agents rows (All-tail (λ n. n < length agents) row rows within))
+
+-- places of agents are those of the same by rising id, where their ids rise
+pub places_rise : (agents these : List Agent) (all places sorted : List ℕ)
+    → ArePlaces agents these places → IsDistinct nat_eq (ids these) → all ≡ ids agents
+    → IsPermutation places sorted → IsNonDecreasingBy (λ row. get_or all row 0) sorted
+    → ArePlaces agents (by_id these) sorted
+places_rise agents these all places sorted are apart ids_are same rise =
+    let at : ℕ → Agent = λ row. get_or agents row no_agent in
+    let moved = subst (λ l. IsPermutation l (by_row agents sorted))
+    (picked-row agents these places are) (IsPermutation-map at places sorted same) in
+    let is : by_id these ≡ by_row agents sorted =
+    by_key_sorted (λ (a : Agent). a.id) these (by_row agents sorted) apart moved
+    (rows_rise agents all sorted ids_are rise) in
+    rows_there agents sorted (All-permutation (λ row. row < length agents) places sorted same
+    (picked-within agents places these are)) ∙ ap (map Some) (sym is)
+
+-- what a column of agents has at the place of one of them
+pub column_there : (f : Agent → ℕ) (agents : List Agent) (column : List ℕ) (place x : ℕ)
+    (a : Agent) → column ≡ map f agents → slice_get column place ≡ Some x
+    → slice_get agents place ≡ Some a → f a ≡ x
+column_there f agents column place x a are read there =
+    same_Some (f a) x (sym (ap (option_map f) there) ∙ sym (slice_get-map f agents place)
+    ∙ ap (λ l. slice_get l place) (sym are) ∙ read)
 
 -- ---- those that a part owns
 
 module _ (cuts : Cuts) (lawful : LawfulCuts cuts) (p : ℕ) (part : p < parts_of cuts) where
-  own_at : (o : Option Class) (a : Agent) → stands_fit o a
+  pub own_at : (o : Option Class) (a : Agent) → stands_fit o a
       → stands_near (area_of cuts p) (pos 0) o a ≡ owns_at cuts p o a
   own_at None a fits = refl
   own_at (Some c) a (f, g) =

@@ -24,10 +24,10 @@ use Rattle.brace_pieces.specs.inner.Walks.{steps_from, ticks_from, behind_effect
 use Rattle.brace_pieces.proofs.EpochLemmas.{same_cuts, shown_behind, shown_first, last_ends}
 use Rattle.brace_pieces.proofs.WalkLemmas.{next_in, next_is, is_low, no_tick, first_of_tick, first_behind_tick}
 use Rattle.brace_part.specs.declared.standing.Stance.{Stance}
-use Rattle.brace_part.specs.declared.standing.Stance.TheVariants.{Owns, Hears, Holds, Leaves}
+use Rattle.brace_part.specs.declared.standing.Stance.TheVariants.{Owns, Leaves}
 use Rattle.brace_part.specs.Parts.{own_under, own_before, found_in_work}
 use Rattle.brace_part.specs.inner.Ready.{own_in, IsReadyFor, IsReady, IsReadyBehind, IsNextAt, next_behind, IsFaultlessBefore, IsFaultlessAt}
-use Rattle.brace_part.proofs.StepLemmas.{OfRun, of_run}
+use Rattle.brace_pieces.proofs.StepLemmas.{OfRun, of_run}
 use Rattle.brace_pieces.proofs.Childless.{no_birth_faults, same_next, none_have, none_born}
 use Rattle.brace_pieces.proofs.OnLemmas.{on_next}
 
@@ -102,8 +102,7 @@ module _ (s : Setting) (p : ℕ) where
     next_is = has.same_next ∙ sym (same_next s none t (on s t)) ∙ sym (ap (λ (w : World). w.next) (on_next s t low));
   }
   no_births t low none (Owns own) has = absurd has
-  no_births t low none (Hears agents heard) has = absurd has
-  no_births t low none (Holds held) has = absurd has
+  no_births t low none _ has = absurd has
 
   updated_ready : (t : ℕ) → s.job.first ≤ t → (stance : Stance) → IsReadyFor s p stage.Census t stance → IsReadyFor s p (behind_effects s) t stance
   updated_ready t low stance has = by_births (λ at. IsReadyFor s p at t stance) has (λ none. no_births t low none stance has)
@@ -119,9 +118,7 @@ module _ (s : Setting) (p : ℕ) where
       (λ other recut. subst (λ c. Own (own_under s p (cuts_of s c) (u + 1))) back has)
       (λ other none. subst (λ cuts. Own (own_under s p cuts (u + 1)))
       (sym (not_recut s (u + 1) u refl low none)) has))
-  moved_ready u low high (Hears agents heard) has = absurd has
-  moved_ready u low high (Holds held) has = absurd has
-  moved_ready u low high (Leaves left born next) has = absurd has
+  moved_ready u low high _ has = absurd has
 
   shown_ready : (t : ℕ) → s.job.first ≤ t → t ≤ s.job.last → (stance : Stance) → IsReadyFor s p stage.Show t stance → IsReady s p (slice_get (ticks_from s t) 0) stance
   shown_ready t low high (Owns own) has =
@@ -138,21 +135,18 @@ module _ (s : Setting) (p : ℕ) where
         | inl first ↦ shown_behind s t (t - 1) (omega (arith, first)) (omega (arith, first)) ∙ sym (not_recut s t (t - 1) (omega (arith, first)) (omega (arith, first)) none)
         | inr other ↦ shown_first s t (omega (arith, other, low))
       ]
-  shown_ready t low high (Hears agents heard) has = absurd has
-  shown_ready t low high (Holds held) has = absurd has
-  shown_ready t low high (Leaves left born next) has = absurd has
+  shown_ready t low high _ has = absurd has
 
   next_ready : (st : Stage) (t : ℕ) → OfRun s st t → (stance : Stance) → IsReadyBehind s p st t stance → IsReady s p (next_in s st t) stance
-  next_ready stage.Hand t run stance has = has
   next_ready stage.Border t run stance has = by_invert s.invert has
     where
       by_invert : (b : Bool) → IsReadyFor s p (if b then stage.Census else stage.Effects) t stance → IsReadyFor s p (if b then behind_effects s else stage.Effects) t stance
       by_invert true has = updated_ready t run.low stance has
       by_invert false has = has
   next_ready stage.Effects t run stance has = updated_ready t run.low stance has
-  next_ready stage.Census t run stance has = has
   next_ready stage.Move t run stance has = moved_ready t run.low (run.below (λ e. absurd (cc))) stance has
   next_ready stage.Show t run stance has = shown_ready t run.low run.high stance has
+  next_ready _ t run stance has = has
 
   -- what a part has behind its work in a step is what the next one needs
   pub ready_next : (k : ℕ) (at : Step) → slice_get (steps s) k ≡ Some at → (stance : Stance) → IsReadyBehind s p at.stage at.tick stance → IsReady s p (slice_get (steps s) (k + 1)) stance
@@ -164,17 +158,12 @@ module _ (s : Setting) (p : ℕ) where
   moved_next u low high (Leaves left born next) old has =
       subst (λ o. IsNextAt s o next) (behind_low s u high)
       (reaches s (u + 1) (λ o. IsNextAt s o next) (omega (arith, high)) (λ e. has.next_is) (λ e r. has.next_is) (λ e r. has.next_is))
-  moved_next u low high (Owns own) old has = absurd has
-  moved_next u low high (Hears agents heard) old has = absurd has
-  moved_next u low high (Holds held) old has = absurd has
+  moved_next u low high _ old has = absurd has
 
   next_next : (st : Stage) (t : ℕ) → OfRun s st t → (stance : Stance) (old : ℕ) → IsReadyFor s p st t stance → old ≡ (on s t).next → IsNextAt s (next_in s st t) (next_behind st stance old)
-  next_next stage.Hand t run stance old has is = is
-  next_next stage.Border t run stance old has is = is
-  next_next stage.Effects t run stance old has is = is
-  next_next stage.Census t run stance old has is = is
   next_next stage.Move t run stance old has is = moved_next t run.low (run.below (λ e. absurd (cc))) stance old has
   next_next stage.Show t run stance old has is = begins s t (λ o. IsNextAt s o old) run.high (λ low r. is) (λ low r. is) (λ last. tt)
+  next_next _ t run stance old has is = is
 
   -- the next free id behind a step is that of the next one's tick
   pub numbered_next : (k : ℕ) (at : Step) → slice_get (steps s) k ≡ Some at → (stance : Stance) (old : ℕ) → IsReadyFor s p at.stage at.tick stance → old ≡ (on s at.tick).next
@@ -184,9 +173,7 @@ module _ (s : Setting) (p : ℕ) where
   -- behind a move it is that of the next tick
   pub numbered_moved : (t : ℕ) (stance : Stance) (old : ℕ) → IsReadyFor s p stage.Move t stance → next_behind stage.Move stance old ≡ (on s (t + 1)).next
   numbered_moved t (Leaves left born next) old has = has.next_is
-  numbered_moved t (Owns own) old has = absurd has
-  numbered_moved t (Hears agents heard) old has = absurd has
-  numbered_moved t (Holds held) old has = absurd has
+  numbered_moved t _ old has = absurd has
 
   -- ---- which faults it found
 

@@ -3,7 +3,6 @@ use Rattle.std.proofs.Common.{◌≡◌, ◌∙◌, refl, sym, ap, subst, ℕ, s
 use Rattle.std.specs.Prelude.{slice_get, nat_lt}
 use Rattle.std.specs.List.{range_with_len}
 use Rattle.std.proofs.lemmas.Bool.{and_parts}
-use Rattle.std.proofs.lemmas.Grind.{common_steps}
 use Rattle.std.proofs.Math.Seq.{drop-cons}
 use Rattle.std.proofs.lemmas.Bool.Decides.{nat_tests}
 use Rattle.std.proofs.lemmas.List.Elements.{All-contains, filter_passes}
@@ -17,6 +16,7 @@ use Rattle.brace_pieces.specs.Right.{IsRight, IsRightIn, IsRightAt}
 use Rattle.brace_part.specs.inner.Pieces.{AreOut, AreTaken, GoesOn}
 use Rattle.brace_part.specs.inner.Pieces.AreOut.{none_out, more_out}
 use Rattle.brace_part.specs.inner.Pieces.AreTaken.{more_taken}
+use Rattle.std.proofs.lemmas.List.{drop_all, drop_more, take_more, same_from_push}
 
 -- in a step that shows nothing to the publisher a part meets parts alone
 pub met_passes : (s : Setting) (at : Step) (p q : ℕ) → Contains (met s at p) q → meet s at p q ≡ true
@@ -31,10 +31,9 @@ met_is_part s at p q nothing has =
     low e = grind (arith, nat_tests, e)
 
     by_test : (a b : Bool) → nat_lt q (parts s) ≡ b → (if a && b then parts_meet s at p q else is_show at.stage) ≡ true → q < parts s
-    by_test true true is e = low is
-    by_test false true is e = low is
     by_test true false is e = absurd (true≢false (sym e ∙ nothing))
     by_test false false is e = absurd (true≢false (sym e ∙ nothing))
+    by_test _ true is e = low is
 
 -- a piece that is right in the step of a number
 pub right_in : (s : Setting) (k p q : ℕ) (at : Step) (piece : Piece) → slice_get (steps s) k ≡ Some at → IsRightAt s k at.stage at.tick p q piece → IsRight s (name k p q) piece
@@ -52,27 +51,13 @@ pub record HasLast (s : Setting) (k p q : ℕ) (others : List ℕ) (all : List P
 out_last : (s : Setting) (k p q : ℕ) (others : List ℕ) (all : List Piece) → AreOut s k p (q ∷ others) all → HasLast s k p q others all
 out_last s k p q others all (more_out q' others' piece pieces right goes rest) = record { pieces = pieces; piece = piece; same = refl; right = right; goes = goes; rest = rest }
 
-snoc_same : (xs ys : List Piece) (x y : Piece) → xs ++ x ∷ [] ≡ ys ++ y ∷ [] → (xs ≡ ys) × (x ≡ y)
-snoc_same [] [] x y e = (refl, cc)
-snoc_same [] (b ∷ []) x y e = absurd (cc)
-snoc_same [] (b ∷ c ∷ ys) x y e = absurd (cc)
-snoc_same (a ∷ []) [] x y e = absurd (cc)
-snoc_same (a ∷ b ∷ xs) [] x y e = absurd (cc)
-snoc_same (a ∷ xs) (b ∷ ys) x y e =
-    let head : a ≡ b = cc in
-    let tail : xs ++ x ∷ [] ≡ ys ++ y ∷ [] = cc in
-    let (same, last) = snoc_same xs ys x y tail in (ap (λ zs. a ∷ zs) same ∙ ap (λ c. c ∷ ys) head, last)
-
 module _ (s : Setting) (k p : ℕ) (others : List ℕ) where
-  next_of : (made : ℕ) → made < length others → drop made others ≡ get_or others made 0 ∷ drop (made + 1) others
-  next_of made low = let one : suc made ≡ made + 1 = omega arith in drop-cons others made 0 low ∙ ap (λ n. get_or others made 0 ∷ drop n others) one
-
   -- the piece that is put next, which is no Halt, and those that are left
   pub puts_last : (made q : ℕ) (left : List Piece) (piece : Piece) → made < length others → get_or others made 0 ≡ q
       → AreOut s k p (drop made others) (left ++ piece ∷ []) → IsRight s (name k p q) piece × (GoesOn piece × AreOut s k p (drop (made + 1) others) left)
   puts_last made q left piece low is out =
-      let has = out_last s k p (get_or others made 0) (drop (made + 1) others) (left ++ piece ∷ []) (subst (λ qs. AreOut s k p qs (left ++ piece ∷ [])) (next_of made low) out) in
-      let (same, last) = snoc_same left has.pieces piece has.piece has.same in
+      let has = out_last s k p (get_or others made 0) (drop (made + 1) others) (left ++ piece ∷ []) (subst (λ qs. AreOut s k p qs (left ++ piece ∷ [])) (drop_more others made 0 low) out) in
+      let (same, last) = same_from_push left has.pieces piece has.piece has.same in
       (subst (λ r. IsRight s (name k p r) piece) is (subst (IsRight s (name k p (get_or others made 0))) (sym last) has.right), (subst GoesOn (sym last) has.goes, subst (AreOut s k p (drop (made + 1) others)) (sym same) has.rest))
 
   -- one more piece that it prepares
@@ -87,17 +72,10 @@ module _ (s : Setting) (k p : ℕ) (others : List ℕ) where
       subst (λ qs. AreOut s k p qs (pieces ++ piece ∷ [])) (sym here) (more_out q (drop (length others - i) others) piece pieces right goes out)
 
   pub none_prepared : AreOut s k p (drop (length others - 0) others) []
-  none_prepared = let all : length others ≡ length others - 0 = omega arith in subst (λ n. AreOut s k p (drop n others) []) all (subst (λ qs. AreOut s k p qs []) (sym (nothing_behind others)) none_out)
-    where
-      nothing_behind : (xs : List ℕ) → drop (length xs) xs ≡ []
-      nothing_behind [] = refl
-      nothing_behind (x ∷ xs) = nothing_behind xs
+  none_prepared = let all : length others ≡ length others - 0 = omega arith in subst (λ n. AreOut s k p (drop n others) []) all (subst (λ qs. AreOut s k p qs []) (sym (drop_all (length others) others (omega arith))) none_out)
 
   -- one more piece that it took
   pub one_taken : (i q : ℕ) (pieces : List Piece) (piece : Piece) → i < length others → get_or others i 0 ≡ q → IsRight s (name k q p) piece → GoesOn piece
       → AreTaken s k p (take i others) pieces → AreTaken s k p (take (i + 1) others) (pieces ++ piece ∷ [])
   one_taken i q pieces piece low is right goes taken =
-      subst (λ qs. AreTaken s k p qs (pieces ++ piece ∷ [])) (sym (take_more others i low ∙ ap (λ r. take i others ++ r ∷ []) is)) (more_taken (take i others) pieces q piece taken right goes)
-    where
-      take_more : (xs : List ℕ) (i : ℕ) → i < length xs → take (i + 1) xs ≡ take i xs ++ get_or xs i 0 ∷ []
-      take_more xs i low = grind (arith, common_steps, low)
+      subst (λ qs. AreTaken s k p qs (pieces ++ piece ∷ [])) (sym (take_more others i 0 low ∙ ap (λ r. take i others ++ r ∷ []) is)) (more_taken (take i others) pieces q piece taken right goes)

@@ -5,7 +5,7 @@ use Rattle.brace_pieces.specs.declared.setting.Stage.{Stage}
 use Rattle.brace_pieces.specs.declared.setting.Stage.TheVariants as stage
 use Rattle.brace_pieces.specs.declared.setting.Step.{Step}
 use Rattle.brace_part.specs.declared.standing.Stance.{Stance}
-use Rattle.brace_part.specs.declared.standing.Stance.TheVariants.{Owns, Hears, Holds, Leaves}
+use Rattle.brace_part.specs.declared.standing.Stance.TheVariants.{Owns}
 use Rattle.brace_part.specs.Parts.{own_before, own_at, is_settled, IsSettled}
 use Rattle.brace_part.specs.inner.Ready.{IsReadyFor, IsReady}
 use Rattle.brace_part.specs.inner.Sound.{owns_in}
@@ -14,21 +14,11 @@ use Rattle.brace_part.proofs.CellLemmas.{stored_are}
 module _ (s : Setting) (p : ℕ) where
   owns_for : (st : Stage) (t : ℕ) (stance : Stance) → is_settled st → IsReadyFor s p st t stance
       → owns_in s.job.program stance ≡ own_before s p st t
-  owns_for stage.Hand t (Owns own) settled has = stored_are s.job.program _ own has
-  owns_for stage.Hand t (Hears agents heard) settled has = absurd has
-  owns_for stage.Hand t (Holds held) settled has = absurd has
-  owns_for stage.Hand t (Leaves left born next) settled has = absurd has
-  owns_for stage.Border t (Owns own) settled has = stored_are s.job.program _ own has
-  owns_for stage.Border t (Hears agents heard) settled has = absurd has
-  owns_for stage.Border t (Holds held) settled has = absurd has
-  owns_for stage.Border t (Leaves left born next) settled has = absurd has
   owns_for stage.Effects t stance settled has = absurd settled
   owns_for stage.Census t stance settled has = absurd settled
   owns_for stage.Move t stance settled has = absurd settled
-  owns_for stage.Show t (Owns own) settled has = stored_are s.job.program _ own has
-  owns_for stage.Show t (Hears agents heard) settled has = absurd has
-  owns_for stage.Show t (Holds held) settled has = absurd has
-  owns_for stage.Show t (Leaves left born next) settled has = absurd has
+  owns_for _ t (Owns own) settled has = stored_are s.job.program _ own has
+  owns_for _ t _ settled has = absurd has
 
   pub owns_at : (o : Option Step) (stance : Stance) → IsSettled o → IsReady s p o stance
       → owns_in s.job.program stance ≡ own_at s p o

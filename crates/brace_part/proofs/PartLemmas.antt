@@ -1,9 +1,8 @@
 -- What holds of a part where it prepared a step.
-use Rattle.std.proofs.Common.{◌≡◌, ◌∙◌, refl, sym, ap, ap₂, subst, ℕ, zero, suc, ◌+◌, ◌-◌, ◌<◌, ◌≤◌, List, [], ◌∷◌, ◌++◌, filter, take, drop, length, Bool, true, false, cond, not, ◌&&◌, Some, None, ◌==◌, arith, true≢false}
+use Rattle.std.proofs.Common.{◌≡◌, ◌∙◌, refl, sym, ap, ap₂, subst, ℕ, ◌+◌, ◌-◌, ◌<◌, List, [], ◌∷◌, ◌++◌, take, drop, length, true, false, cond, not, ◌&&◌, Some, None, ◌==◌, arith, true≢false}
 use Rattle.std.specs.Prelude.{slice_get, nat_lt, if◌then◌else◌, fold}
 use Rattle.std.specs.List.{range_with_len}
-use Rattle.std.proofs.lemmas.Bool.{ne_eqb, and_right}
-use Rattle.std.proofs.lemmas.Bool.Decides.{nat_tests}
+use Rattle.std.proofs.lemmas.Bool.{ne_eqb, and_right, lt-ltb, le-ltb}
 use Rattle.brace_pieces.specs.declared.setting.Setting.{Setting}
 use Rattle.brace_pieces.specs.declared.setting.Stage.{Stage}
 use Rattle.brace_pieces.specs.declared.setting.Stage.TheVariants as stage
@@ -26,10 +25,12 @@ use Rattle.brace_part.specs.inner.Pieces.AreOut.{none_out, more_out}
 use Rattle.brace_part.specs.inner.Pieces.AreTaken.{none_taken}
 use Rattle.brace_part.specs.inner.Ready.{IsReady, IsNextAt, IsFaultlessAt, IsFaultlessBefore}
 use Rattle.brace_part.specs.inner.Sound.{GoesOn}
-use Rattle.brace_part.proofs.StepLemmas.{of_run}
+use Rattle.brace_pieces.proofs.StepLemmas.{of_run}
 use Rattle.brace_part.proofs.OutLemmas.{right_in}
 use Rattle.brace_part.proofs.ShownLemmas.{kept_is_shown}
 use Rattle.brace_part.proofs.CountLemmas.{counts_end, counts_showing, counts_exchanging}
+use Rattle.brace_num.proofs.Lists.{filter_none}
+use Rattle.brace_num.proofs.Rows.{row_alike}
 
 -- a part that made no turn in a step goes on where it has what it needs, and what it puts
 pub goes_on : (c : OnCourse) (standing : Standing) → c.made ≡ 0 → IsReady c.setting c.actor (step_of c) standing.stance → IsNextAt c.setting (step_of c) standing.next → IsFaultlessAt c.setting c.actor (step_of c)
@@ -48,38 +49,23 @@ goes_on c standing start ready number faultless out nothing keeps counted =
 
 -- ---- where all is shown
 
-pub none_kept : (f : ℕ → Bool) (n a : ℕ) → ((q : ℕ) → a ≤ q → q < a + n → f q ≡ false) → filter f (range_with_len a n) ≡ []
-none_kept f zero a none = refl
-none_kept f (suc n) a none =
-    ap (λ c. cond c (a ∷ filter f (range_with_len (a + 1) n)) (filter f (range_with_len (a + 1) n))) (none a (omega arith) (omega arith))
-    ∙ none_kept f n (a + 1) (λ q low high. none q (omega (arith, low)) (omega (arith, high)))
-
-pub not_below : (n : ℕ) → nat_lt n n ≡ false
-not_below n = grind (arith, nat_tests)
-
-other_than : (p n : ℕ) → p < n → p ≡ n → ⊥
-other_than p n low e = omega (arith, low, e)
-
 module _ (s : Setting) (p t : ℕ) (part : p < parts s) where
   abbrev shows : Step
   shows = record { stage = stage.Show; tick = t }
 
-  is_below : (q n : ℕ) → q < n → nat_lt q n ≡ true
-  is_below q n low = grind (arith, nat_tests, low)
-
   no_part : (q : ℕ) → q < parts s → meet s shows p q ≡ false
   no_part q low =
-      ap₂ (λ a b. not (p == q) && (if a && b then false else true)) (is_below p (parts s) part) (is_below q (parts s) low) ∙ and_right (not (p == q)) false refl
+      ap₂ (λ a b. not (p == q) && (if a && b then false else true)) (lt-ltb p (parts s) part) (lt-ltb q (parts s) low) ∙ and_right (not (p == q)) false refl
 
   publisher : meet s shows p (parts s) ≡ true
   publisher =
-      ap₂ (λ a b. not a && (if nat_lt p (parts s) && b then false else true)) (ne_eqb p (parts s) (other_than p (parts s) part)) (not_below (parts s))
-      ∙ ap (λ a. true && (if a && false then false else true)) (is_below p (parts s) part)
+      ap₂ (λ a b. not a && (if nat_lt p (parts s) && b then false else true)) (ne_eqb p (parts s) (λ same. omega (arith, part, same))) (le-ltb (parts s) (parts s) (omega arith))
+      ∙ ap (λ a. true && (if a && false then false else true)) (lt-ltb p (parts s) part)
 
   pub met_where_shown : met s shows p ≡ parts s ∷ []
   met_where_shown =
       kept_more (meet s shows p) (parts s)
-      ∙ ap₂ (λ xs c. xs ++ cond c (parts s ∷ []) []) (none_kept (meet s shows p) (parts s) 0 (λ q low high. no_part q (omega (arith, high)))) publisher
+      ∙ ap₂ (λ xs c. xs ++ cond c (parts s ∷ []) []) (row_alike (meet s shows p) (λ q. false) 0 (parts s) (λ q low high. no_part q (omega (arith, high))) ∙ filter_none (range_with_len 0 (parts s))) publisher
 
 -- what a part shows is right
 pub shows_right : (s : Setting) (k p : ℕ) (at : Step) (list : List Shown) → LawfulSetting s → p < parts s → slice_get (steps s) k ≡ Some at → at.stage ≡ stage.Show
@@ -123,12 +109,8 @@ goes_showing c standing at list lawful part is show start ready number faultless
     (counted ∙ counts_showing s p c.number at is show)
 
 brings_keeps : (s : Setting) (p : ℕ) (st : Stage) (t : ℕ) → is_show st ≡ false → brings_to s p st t ≡ keeps_before s p st t
-brings_keeps s p stage.Hand t is = refl
-brings_keeps s p stage.Border t is = refl
-brings_keeps s p stage.Effects t is = refl
-brings_keeps s p stage.Census t is = refl
-brings_keeps s p stage.Move t is = refl
 brings_keeps s p stage.Show t is = absurd (true≢false is)
+brings_keeps s p _ t is = refl
 
 pub goes_exchanging : (c : OnCourse) (standing : Standing) (at : Step) → step_of c ≡ Some at → is_show at.stage ≡ false → c.made ≡ 0
     → IsReady c.setting c.actor (step_of c) standing.stance → IsNextAt c.setting (step_of c) standing.next → IsFaultlessAt c.setting c.actor (step_of c) → standing.shown ≡ brings_at c.setting c.actor (step_of c)

@@ -11,6 +11,7 @@ use Rattle.brace_model.specs.Query.{Saying}
 use Rattle.brace_comb.specs.declared.entry.Entry.{Entry}
 use Rattle.brace_eval.specs.declared.heard.Heard.{Heard}
 use Rattle.brace_eval.specs.Heard.{IsHeard, said_by}
+use Rattle.brace_fold.specs.Rows.{AreMoved, by_id}
 use Rattle.brace_fold.specs.Sums.{AreSummed}
 use Rattle.brace_invert.proofs.Heard.{seen_in}
 use Rattle.brace_invert.specs.Split.{forward_program, inverse_program}
@@ -75,16 +76,17 @@ module _ (s : Setting) (lawful : LawfulSetting s) (numbers : NumbersFit s) (t p 
   -- the same of sums
   pub sums_right : (part : p < parts s) (plain : s.invert ≡ false) (q : ℕ) (held : Held)
       (entries : List Entry) → HoldsAsked s p t held
-      → owned s.job.program (cuts_of s t) q held.guests.items ≡ owned s.job.program (cuts_of s t) q
-      (near s t p world.agents)
-      → ((all : List Agent) (said : List Saying)
-      → ArePlaces all held.guests.items held.places.items
+      → owned s.job.program (cuts_of s t) q (by_id held.guests.items)
+      ≡ owned s.job.program (cuts_of s t) q (near s t p world.agents)
+      → ((all : List Agent) (said : List Saying) → AreMoved all held.rows
+      → ArePlaces all (by_id held.guests.items) held.places.items
       → AreSummed s.job.program all said held.said
-      → map share_of entries ≡ shares_in s.job.program (cuts_of s t) q held.guests.items said)
+      → map share_of entries
+      ≡ shares_in s.job.program (cuts_of s t) q (by_id held.guests.items) said)
       → map share_of entries ≡ shares s t p q world.agents
   sums_right part plain q held entries h theirs told =
       let said = said_over s t (own_in s p t) (near s t p world.agents) in
-      told h.holds.stand.all said h.holds.stand.guests_stand h.sums
+      told h.holds.stand.all said h.holds.stand.listed.moved h.holds.stand.guests_stand h.sums
       ∙ ap (flat_map (λ b. shares_to said b (class_of s.job.program b))) theirs
       ∙ over_all part plain q
 

@@ -1,5 +1,5 @@
 -- What a part keeps to be shown, from tick to tick.
-use Rattle.std.proofs.Common.{◌≡◌, ◌∙◌, refl, sym, ap, ap₂, subst, ℕ, zero, suc, ◌+◌, ◌-◌, ◌<◌, ◌≤◌, List, [], ◌∷◌, ◌++◌, map, filter, Bool, true, false, cond, Some, ◌==◌, ◌||◌, arith, inl, inr}
+use Rattle.std.proofs.Common.{◌≡◌, ◌∙◌, refl, sym, ap, ap₂, subst, ℕ, suc, ◌+◌, ◌-◌, ◌<◌, ◌≤◌, List, [], ◌∷◌, ◌++◌, map, filter, Bool, true, false, cond, Some, ◌==◌, ◌||◌, arith, inl, inr}
 use Rattle.std.specs.Prelude.{slice_get, ◌%◌, if◌then◌else◌}
 use Rattle.std.specs.List.{range_with_len}
 use Rattle.std.proofs.lemmas.Bool.{cases_eq, eq-eqb, ne_eqb}
@@ -19,26 +19,16 @@ use Rattle.brace_pieces.specs.inner.Walks.{steps_from, behind_effects}
 use Rattle.brace_pieces.proofs.EpochLemmas.{row_one, from_one, from_first, since, same_from}
 use Rattle.brace_pieces.proofs.WalkLemmas.{next_in, next_is}
 use Rattle.brace_part.specs.Parts.{own_under, noted, kept_at, keeps_before, brings_to, brings_at}
-use Rattle.brace_part.proofs.StepLemmas.{OfRun, of_run}
+use Rattle.brace_pieces.proofs.StepLemmas.{OfRun, of_run}
 use Rattle.brace_part.proofs.NextLemmas.{begins, reaches, behind_low, by_births}
-
--- tests that agree on numbers in a row keep the same ones
-kept_same : (f g : ℕ → Bool) (n a : ℕ) → ((v : ℕ) → a ≤ v → v < a + n → f v ≡ g v) → filter f (range_with_len a n) ≡ filter g (range_with_len a n)
-kept_same f g zero a same = refl
-kept_same f g (suc n) a same =
-    ap₂ (λ c xs. cond c (a ∷ xs) xs) (same a (omega arith) (omega arith)) (kept_same f g n (a + 1) (λ v low high. same v (omega (arith, low)) (omega (arith, high))))
+use Rattle.brace_num.proofs.Rows.{row_alike, in_row}
+use Rattle.brace_invert.proofs.Heard.{seen_in}
+use Rattle.brace_num.proofs.Lists.{map_alike}
 
 -- what is the same of each number in a row is so of those that are kept
 mapped_same : {A : Type 0} (f g : ℕ → A) (t : ℕ → Bool) (n a : ℕ) → ((v : ℕ) → a ≤ v → v < a + n → f v ≡ g v) → map f (filter t (range_with_len a n)) ≡ map g (filter t (range_with_len a n))
-mapped_same f g t zero a same = refl
-mapped_same f g t (suc n) a same = by_test (t a) (mapped_same f g t n (a + 1) (λ v low high. same v (omega (arith, low)) (omega (arith, high))))
-  where
-    rest : List ℕ
-    rest = filter t (range_with_len (a + 1) n)
-
-    by_test : (c : Bool) → map f rest ≡ map g rest → map f (cond c (a ∷ rest) rest) ≡ map g (cond c (a ∷ rest) rest)
-    by_test true e = ap₂ (λ x xs. x ∷ xs) (same a (omega arith) (omega arith)) e
-    by_test false e = e
+mapped_same f g t n a same = map_alike f g (filter t (range_with_len a n)) (λ v has.
+    (let there = in_row a n v (seen_in t (range_with_len a n) v has).0 in same v there.0 there.1))
 
 module _ (s : Setting) where
   -- ---- the ticks that are shown
@@ -78,7 +68,7 @@ module _ (s : Setting) where
       let h = since s t low in
       let from : ℕ = shown_from s t in
       let high = h.high in
-      kept_same is_noted (λ v. (v == t) || (v % s.job.every == 0)) (t + 1 - from) from
+      row_alike is_noted (λ v. (v == t) || (v % s.job.every == 0)) from (t + 1 - from)
       (λ v up down. ap (λ c. c || (v % s.job.every == 0)) (elim (cases_eq v t) [
         | inl same ↦ ap (is_end s) same ∙ ends ∙ sym (eq-eqb v t same)
         | inr other ↦ h.no_end v up (omega (arith, down, high, other)) ∙ sym (ne_eqb v t other)
@@ -141,10 +131,8 @@ module _ (s : Setting) where
 
     next_brings : (st : Stage) (t : ℕ) → OfRun s st t → (old new : List Shown) → old ≡ keeps_before s p st t
         → (st ≡ stage.Move → new ≡ map (kept_at s p) (noted s (t + 1))) → ((st ≡ stage.Move → ⊥) → new ≡ old) → new ≡ brings_at s p (next_in s st t)
-    next_brings stage.Hand t run old new had moved stays = stays (λ e. absurd (cc)) ∙ had
     next_brings stage.Border t run old new had moved stays = by_choice s.invert t new (stays (λ e. absurd (cc)) ∙ had)
     next_brings stage.Effects t run old new had moved stays = behind_updates t new (stays (λ e. absurd (cc)) ∙ had)
-    next_brings stage.Census t run old new had moved stays = stays (λ e. absurd (cc)) ∙ had
     next_brings stage.Move t run old new had moved stays =
         let low = run.low in
         let high = run.below (λ e. absurd (cc)) in
@@ -155,6 +143,7 @@ module _ (s : Setting) where
         (λ low r. is ∙ sym (ap (λ c. if c then [] else map (kept_at s p) (noted s t)) (run.ends refl)))
         (λ low r. is ∙ sym (ap (λ c. if c then [] else map (kept_at s p) (noted s t)) (run.ends refl)))
         (λ last. is)
+    next_brings _ t run old new had moved stays = stays (λ e. absurd (cc)) ∙ had
 
     -- what a part keeps behind a step is what it brings to the next one
     pub brings_next : (k : ℕ) (at : Step) → slice_get (steps s) k ≡ Some at → (old new : List Shown) → old ≡ keeps_before s p at.stage at.tick

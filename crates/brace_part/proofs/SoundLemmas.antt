@@ -1,9 +1,7 @@
 -- A part is sound behind each of its turns.
-use Rattle.std.proofs.Common.{◌≡◌, ◌∙◌, refl, sym, ap, subst, ℕ, zero, suc, ◌+◌, ◌-◌, ◌*◌, ◌<◌, ◌≤◌, List, [], ◌∷◌, ◌++◌, take, drop, length, get_or, filter, Bool, true, false, cond, not, ◌&&◌, Option, Some, None, arith, inl, inr}
-use Rattle.std.specs.Prelude.{nat_lt, if◌then◌else◌}
+use Rattle.std.proofs.Common.{◌≡◌, ◌∙◌, refl, sym, ap, subst, ℕ, suc, ◌+◌, ◌-◌, ◌*◌, ◌<◌, ◌≤◌, List, [], ◌∷◌, ◌++◌, take, drop, length, get_or, filter, Bool, false, cond, Option, Some, None, arith}
 use Rattle.std.specs.List.{range_with_len}
-use Rattle.std.proofs.lemmas.Bool.{cases_eq, eq-eqb}
-use Rattle.std.proofs.lemmas.List.{length-append, length-take-le}
+use Rattle.std.proofs.lemmas.List.{length-append, length-take-le, drop_all}
 use Rattle.brace_core.specs.declared.name.Name.{Name}
 use Rattle.brace_pieces.specs.declared.setting.Setting.{Setting}
 use Rattle.brace_pieces.specs.declared.setting.Step.{Step}
@@ -11,7 +9,7 @@ use Rattle.brace_pieces.specs.declared.piece.Cause.{Cause}
 use Rattle.brace_pieces.specs.declared.piece.Piece.{Piece}
 use Rattle.brace_pieces.specs.declared.piece.Shown.{Shown}
 use Rattle.brace_pieces.specs.Settings.{parts}
-use Rattle.brace_pieces.specs.Steps.{meet, parts_meet, is_show}
+use Rattle.brace_pieces.specs.Steps.{meet}
 use Rattle.brace_pieces.specs.Right.{IsRight}
 use Rattle.brace_pieces.specs.Courses.{OnCourse, met_in, step_of, others_of, gone_on}
 use Rattle.brace_pieces.proofs.CourseLemmas.{goes_within, course_within}
@@ -25,7 +23,10 @@ use Rattle.brace_part.specs.inner.Pieces.AreTaken.{none_taken, more_taken}
 use Rattle.brace_part.specs.inner.Ready.{IsReady, IsNextAt, AreKept}
 use Rattle.brace_part.specs.inner.Sound.{GoesOn, IsHalted, IsSound}
 use Rattle.brace_part.proofs.OutLemmas.{puts_last, one_taken}
-use Rattle.brace_part.proofs.TurnLemmas.{PutsNext, TakesNext}
+use Rattle.brace_pieces.proofs.TurnLemmas.{PutsNext, TakesNext}
+use Rattle.std.proofs.lemmas.List.Elements.{filter-append}
+use Rattle.brace_num.proofs.Rows.{row_kept, row_joined}
+use Rattle.brace_pieces.proofs.ScheduleLemmas.{meets_no_self}
 
 abbrev pub one_on : OnCourse → OnCourse
 one_on c = record c { made = c.made + 1 }
@@ -42,12 +43,6 @@ sound_within c queries old new was is room places h low goes halted found shown 
       kept = subst (AreKept c.setting c.actor) (sym shown) h.kept;
       has_room = subst (λ r. parts c.setting ≤ r) (sym same) h.has_room;
     })
-
-past_all : (n : ℕ) (xs : List ℕ) → length xs ≤ n → drop n xs ≡ []
-past_all zero [] high = refl
-past_all (suc n) [] high = refl
-past_all zero (x ∷ xs) high = absurd (omega (arith, high))
-past_all (suc n) (x ∷ xs) high = past_all n xs (omega (arith, high))
 
 -- what no exchange changes
 abbrev pub kept_of : Standing → List Shown × Counts × ℕ
@@ -85,7 +80,7 @@ module _ (c : OnCourse) (old new : Standing) (h : GoesOn c old) (stance : new.st
       let high = turn.high in
       let i : ℕ = c.made - length others in
       let more : i + 1 ≡ c.made + 1 - length others = omega (arith, high) in
-      let still : drop c.made others ≡ drop (c.made + 1) others = past_all c.made others high ∙ sym (past_all (c.made + 1) others (omega (arith, high))) in
+      let still : drop c.made others ≡ drop (c.made + 1) others = drop_all c.made others high ∙ sym (drop_all (c.made + 1) others (omega (arith, high))) in
       record {
         ready = subst (IsReady c.setting c.actor (step_of c)) (sym stance) h.ready;
         next_is = subst (IsNextAt c.setting (step_of c)) (sym (ap (λ x. x.2) kept)) h.next_is;
@@ -100,36 +95,23 @@ module _ (c : OnCourse) (old new : Standing) (h : GoesOn c old) (stance : new.st
 
 -- ---- there is room for all that it takes
 
-kept_row : (f : ℕ → Bool) (n a : ℕ) → length (filter f (range_with_len a n)) ≤ n
-kept_row f zero a = omega arith
-kept_row f (suc n) a = elim (f a) as (λ v. length (cond v (a ∷ filter f (range_with_len (a + 1) n)) (filter f (range_with_len (a + 1) n))) ≤ suc n) [
-  | true ↦ omega (arith, kept_row f n (a + 1))
-  | false ↦ omega (arith, kept_row f n (a + 1))
-]
-
 one_missing : (f : ℕ → Bool) (n a q : ℕ) → a ≤ q → q < a + n → f q ≡ false → length (filter f (range_with_len a n)) + 1 ≤ n
-one_missing f zero a q low high none = absurd (omega (arith, low, high))
-one_missing f (suc n) a q low high none = elim (cases_eq a q) [
-  | inl same ↦ here (ap f same ∙ none)
-  | inr other ↦ there (f a) (one_missing f n (a + 1) q (omega (arith, low, other)) (omega (arith, high)) none)
-]
-  where
-    rest : List ℕ
-    rest = filter f (range_with_len (a + 1) n)
-
-    here : f a ≡ false → length (filter f (range_with_len a (suc n))) + 1 ≤ suc n
-    here lacks = let few = kept_row f n (a + 1) in let same = ap (λ v. length (cond v (a ∷ rest) rest)) lacks in omega (arith, few, same)
-
-    there : (v : Bool) → length rest + 1 ≤ n → length (cond v (a ∷ rest) rest) + 1 ≤ suc n
-    there true few = omega (arith, few)
-    there false few = omega (arith, few)
-
-not_itself : (s : Setting) (at : Step) (p : ℕ) → meet s at p p ≡ false
-not_itself s at p = ap (λ v. not v && (if nat_lt p (parts s) && nat_lt p (parts s) then parts_meet s at p p else is_show at.stage)) (eq-eqb p p refl)
+one_missing f n a q low high none =
+    let k : ℕ = q - a in
+    let m : ℕ = n - k - 1 in
+    let whole : n ≡ k + suc m = omega (arith, low, high) in
+    let there : a + k ≡ q = omega (arith, low) in
+    let rest : List ℕ = filter f (range_with_len (a + k + 1) m) in
+    let split : filter f (range_with_len a n) ≡ filter f (range_with_len a k) ++ rest =
+    ap (λ v. filter f (range_with_len a v)) whole ∙ ap (filter f) (sym (row_joined a k (suc m)))
+    ∙ filter-append f (range_with_len a k) (range_with_len (a + k) (suc m))
+    ∙ ap (λ v. filter f (range_with_len a k) ++ cond v ((a + k) ∷ rest) rest) (ap f there ∙ none) in
+    let sum = length-append (filter f (range_with_len a k)) rest in
+    omega (arith, row_kept f a k, row_kept f (a + k + 1) m, ap length split, sum, whole)
 
 met_few : (s : Setting) (o : Option Step) (p : ℕ) → p < parts s → length (met_in s o p) ≤ parts s
 met_few s None p part = omega arith
-met_few s (Some at) p part = let few = one_missing (meet s at p) (parts s + 1) 0 p (omega arith) (omega (arith, part)) (not_itself s at p) in omega (arith, few)
+met_few s (Some at) p part = let few = one_missing (meet s at p) (parts s + 1) 0 p (omega arith) (omega (arith, part)) (meets_no_self s at p) in omega (arith, few)
 
 taken_long : (s : Setting) (k p : ℕ) (qs : List ℕ) (taken : List Piece) → AreTaken s k p qs taken → length taken ≡ length qs
 taken_long s k p qs taken none_taken = refl

@@ -16,7 +16,7 @@ use Rattle.brace_pieces.specs.Owned.{owned}
 use Rattle.brace_pieces.specs.inner.Walks.{ticks_from}
 use Rattle.brace_pieces.proofs.WalkLemmas.{no_tick, first_behind_tick}
 use Rattle.brace_part.specs.declared.standing.Stance.{Stance}
-use Rattle.brace_part.specs.declared.standing.Stance.TheVariants.{Owns, Hears, Holds, Leaves}
+use Rattle.brace_part.specs.declared.standing.Stance.TheVariants.{Owns}
 use Rattle.brace_part.specs.declared.standing.Standing.{Standing}
 use Rattle.brace_part.specs.Parts.{own_under, kept_at}
 use Rattle.brace_part.specs.Given.{no_counts}
@@ -64,9 +64,7 @@ module _ (s : Setting) (p : ℕ) where
       (λ e. subst (λ cuts. AreStored s.job.program (own_under s p cuts first) own)
       (sym (shown_first s first refl)) has)
       (λ e r. no_recut (recut_behind s first r)) (λ e r. has)
-  ready_first up (Hears agents heard) has = absurd has
-  ready_first up (Holds held) has = absurd has
-  ready_first up (Leaves left born next) has = absurd has
+  ready_first up _ has = absurd has
 
   ready_last : s.job.last < first → (stance : Stance) → IsReadyFor s p stage.Border first stance → IsReadyFor s p stage.Show s.job.last stance
   ready_last down (Owns own) has =
@@ -76,9 +74,7 @@ module _ (s : Setting) (p : ℕ) where
       (ap (λ n. owned s.job.program (cuts_of s first) p (continued_after s n).agents) same
       ∙ sym (ap (λ c. own_under s p (cuts_of s
       (if c then s.job.last - 1 else first)) s.job.last) none)) has
-  ready_last down (Hears agents heard) has = absurd has
-  ready_last down (Holds held) has = absurd has
-  ready_last down (Leaves left born next) has = absurd has
+  ready_last down _ has = absurd has
 
   faultless_first : first ≤ s.job.last → IsFaultlessAt s p (slice_get (steps s) 0)
   faultless_first up =
@@ -101,9 +97,7 @@ module _ (s : Setting) (p : ℕ) where
       (stored_are s.job.program _ own has
       ∙ sym (ap (λ cuts. own_under s p cuts first) (shown_first s first refl)))
       next_first
-  note_first (Hears agents heard) has = absurd has
-  note_first (Holds held) has = absurd has
-  note_first (Leaves left born next) has = absurd has
+  note_first _ has = absurd has
 
   next_at_first : first ≤ s.job.last → (next : ℕ) → next ≡ s.job.start.next → IsNextAt s (slice_get (steps s) 0) next
   next_at_first up next is =

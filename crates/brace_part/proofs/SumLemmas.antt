@@ -1,5 +1,5 @@
 -- Sums over lists, and what lists have in common.
-use Rattle.std.proofs.Common.{◌≡◌, ◌∙◌, refl, sym, ap, ap₂, subst, ℕ, zero, suc, ◌+◌, ◌<◌, List, [], ◌∷◌, ◌++◌, filter, flat_map, length, Bool, true, false, cond, ◌==◌, ◌||◌, AllPairs, arith, ⊎_elim}
+use Rattle.std.proofs.Common.{◌≡◌, ◌∙◌, refl, sym, ap, ℕ, zero, suc, ◌+◌, ◌<◌, List, [], ◌∷◌, ◌++◌, filter, flat_map, length, Bool, true, false, cond, ◌==◌, ◌&&◌, ◌||◌, AllPairs, arith, ⊎_elim}
 use Rattle.std.specs.Prelude.{sum_by, count_by}
 use Rattle.std.specs.List.{Contains, list_any}
 use Rattle.std.specs.List.Sorted.{IsPermutation}
@@ -7,17 +7,8 @@ use Rattle.std.proofs.lemmas.Bool.{eqb-true, ne_eqb}
 use Rattle.std.proofs.lemmas.List.Elements.{Contains-append_right, Contains-append_cases}
 use Rattle.std.proofs.lemmas.List.Sorted.{IsPermutation-sym, Contains-permutation}
 use Rattle.std.proofs.lemmas.List.Sums.{sum_by-cons, sum_by-append, length-filter}
-
-pub sum_none : {A : Type 0} (xs : List A) → sum_by (λ x. 0) xs ≡ 0
-sum_none [] = refl
-sum_none (x ∷ xs) = let rest = sum_none xs in omega (arith, sum_by-cons (λ x. 0) x xs, rest)
-
-pub sum_same : {A : Type 0} (f g : A → ℕ) (xs : List A) → ((x : A) → Contains xs x → f x ≡ g x) → sum_by f xs ≡ sum_by g xs
-sum_same f g [] same = refl
-sum_same f g (x ∷ xs) same =
-    sum_by-cons f x xs
-    ∙ ap₂ (λ m n. m + n) (same x (0, omega arith, refl)) (sum_same f g xs (λ y has. same y (Contains-append_right (x ∷ []) xs y has)))
-    ∙ sym (sum_by-cons g x xs)
+use Rattle.brace_num.proofs.Booleans.{and_swap}
+use Rattle.brace_num.proofs.Lists.{sum_none, sum_alike, filter_alike, filter_twice, none_in}
 
 sum_both : {A : Type 0} (f g : A → ℕ) (xs : List A) → sum_by (λ x. f x + g x) xs ≡ sum_by f xs + sum_by g xs
 sum_both f g [] = refl
@@ -32,7 +23,7 @@ sum_swap f (x ∷ xs) ys =
     sum_by-cons (λ x. sum_by (f x) ys) x xs
     ∙ ap (λ n. sum_by (f x) ys + n) (sum_swap f xs ys)
     ∙ sym (sum_both (f x) (λ y. sum_by (λ x. f x y) xs) ys)
-    ∙ sum_same (λ y. f x y + sum_by (λ x. f x y) xs) (λ y. sum_by (λ x. f x y) (x ∷ xs)) ys (λ y has. sym (sum_by-cons (λ x. f x y) x xs))
+    ∙ sum_alike (λ y. f x y + sum_by (λ x. f x y) xs) (λ y. sum_by (λ x. f x y) (x ∷ xs)) ys (λ y has. sym (sum_by-cons (λ x. f x y) x xs))
 
 pub sum_flat : {A B : Type 0} (f : B → ℕ) (g : A → List B) (xs : List A) → sum_by f (flat_map g xs) ≡ sum_by (λ x. sum_by f (g x)) xs
 sum_flat f g [] = refl
@@ -53,7 +44,7 @@ sum_where f t (x ∷ xs) =
 
 pub sum_kept : {A : Type 0} (f : A → ℕ) (t u : A → Bool) (xs : List A) → ((x : A) → Contains xs x → cond (t x) (f x) 0 ≡ cond (u x) (f x) 0) → sum_by f (filter t xs) ≡ sum_by f (filter u xs)
 sum_kept f t u xs same =
-    sum_where f t xs ∙ sum_same (λ x. cond (t x) (f x) 0) (λ x. cond (u x) (f x) 0) xs same ∙ sym (sum_where f u xs)
+    sum_where f t xs ∙ sum_alike (λ x. cond (t x) (f x) 0) (λ x. cond (u x) (f x) 0) xs same ∙ sym (sum_where f u xs)
 
 -- ---- items that two lists have in common
 
@@ -84,7 +75,7 @@ module _ {A : Type 0} (key : A → ℕ) where
     where
       no_other : (key x == n) ≡ true → count_by (has_key n) xs ≡ 0
       no_other is =
-          sum_same (λ y. cond (has_key n y) 1 0) (λ y. 0) xs (λ y has.
+          sum_alike (λ y. cond (has_key n y) 1 0) (λ y. 0) xs (λ y has.
           let less = above_first x xs up y has in
           let same = eqb-true (key x) n is in
           ap (λ v. cond v 1 0) (ne_eqb (key y) n (λ e. omega (arith, less, same, e))))
@@ -99,48 +90,21 @@ module _ {A : Type 0} (key : A → ℕ) where
   pub common : (xs ys : List A) → Risen xs → Risen ys → length (filter (λ x. list_any (λ y. key y == key x) ys) xs) ≡ length (filter (λ y. list_any (λ x. key x == key y) xs) ys)
   common xs ys up down =
       length-filter (λ x. list_any (λ y. key y == key x) ys) xs
-      ∙ sum_same (λ x. cond (list_any (λ y. key y == key x) ys) 1 0) (λ x. count_by (has_key (key x)) ys) xs (λ x has. counted_once (key x) ys down)
+      ∙ sum_alike (λ x. cond (list_any (λ y. key y == key x) ys) 1 0) (λ x. count_by (has_key (key x)) ys) xs (λ x has. counted_once (key x) ys down)
       ∙ sum_swap (λ x y. cond (key y == key x) 1 0) xs ys
-      ∙ sum_same (λ y. sum_by (λ x. cond (key y == key x) 1 0) xs) (λ y. cond (list_any (λ x. key x == key y) xs) 1 0) ys (λ y has.
-      sum_same (λ x. cond (key y == key x) 1 0) (λ x. cond (key x == key y) 1 0) xs (λ x there. ap (λ v. cond v 1 0) (turned (key y) (key x)))
+      ∙ sum_alike (λ y. sum_by (λ x. cond (key y == key x) 1 0) xs) (λ y. cond (list_any (λ x. key x == key y) xs) 1 0) ys (λ y has.
+      sum_alike (λ x. cond (key y == key x) 1 0) (λ x. cond (key x == key y) 1 0) xs (λ x there. ap (λ v. cond v 1 0) (turned (key y) (key x)))
       ∙ sym (counted_once (key y) xs up))
       ∙ sym (length-filter (λ y. list_any (λ x. key x == key y) xs) ys)
 
 -- ---- who gives nothing
 
--- an item that passes a test is one of those that do
-pub kept_in : {A : Type 0} (t : A → Bool) (xs : List A) (x : A) → Contains xs x → t x ≡ true → Contains (filter t xs) x
-kept_in t [] x has passes = has
-kept_in t (y ∷ xs) x has passes = ⊎_elim
-    (λ (here : Contains (y ∷ []) x). at_first here)
-    (λ (later : Contains xs x). behind (t y) (kept_in t xs x later passes))
-    (Contains-append_cases (y ∷ []) xs x has)
-  where
-    behind : (v : Bool) → Contains (filter t xs) x → Contains (cond v (y ∷ filter t xs) (filter t xs)) x
-    behind true there = Contains-append_right (y ∷ []) (filter t xs) x there
-    behind false there = there
-
-    at_first : Contains (y ∷ []) x → Contains (filter t (y ∷ xs)) x
-    at_first (zero, low, is) = subst (λ v. Contains (cond v (y ∷ filter t xs) (filter t xs)) x) (sym (ap t is ∙ passes)) (0, omega arith, is)
-    at_first (suc k, low, is) = absurd (omega (arith, low))
-
 -- which of two tests comes first does not matter
 pub either_first : {A : Type 0} (t u : A → Bool) (xs : List A) → filter t (filter u xs) ≡ filter u (filter t xs)
-either_first t u [] = refl
-either_first t u (x ∷ xs) = by_tests (t x) (u x) refl refl (either_first t u xs)
-  where
-    by_tests : (v w : Bool) → t x ≡ v → u x ≡ w → filter t (filter u xs) ≡ filter u (filter t xs)
-        → filter t (cond w (x ∷ filter u xs) (filter u xs)) ≡ filter u (cond v (x ∷ filter t xs) (filter t xs))
-    by_tests true true first second rest =
-        ap (λ v. cond v (x ∷ filter t (filter u xs)) (filter t (filter u xs))) first ∙ ap (λ ys. x ∷ ys) rest
-        ∙ sym (ap (λ v. cond v (x ∷ filter u (filter t xs)) (filter u (filter t xs))) second)
-    by_tests true false first second rest = rest ∙ sym (ap (λ v. cond v (x ∷ filter u (filter t xs)) (filter u (filter t xs))) second)
-    by_tests false true first second rest = ap (λ v. cond v (x ∷ filter t (filter u xs)) (filter t (filter u xs))) first ∙ rest
-    by_tests false false first second rest = rest
-
-none_in : {A : Type 0} (xs : List A) → ((x : A) → Contains xs x → ⊥) → xs ≡ []
-none_in [] none = refl
-none_in (x ∷ xs) none = absurd (none x (0, omega arith, refl))
+either_first t u xs =
+    filter_twice t u xs
+    ∙ filter_alike (λ a. u a && t a) (λ a. t a && u a) xs (λ x has. and_swap (u x) (t x))
+    ∙ sym (filter_twice u t xs)
 
 given_by : {A : Type 0} (give : ℕ → List A) (ms : List ℕ) (x : A) → Contains (flat_map give ms) x → (r : ℕ) × (Contains ms r × Contains (give r) x)
 given_by give [] x (k, low, is) = absurd (omega (arith, low))

@@ -1,5 +1,5 @@
 -- What the agents of a part leave, one after another.
-use Rattle.std.proofs.Common.{◌≡◌, ◌∙◌, refl, sym, ap, ap₂, subst, ℕ, ◌+◌, ◌<◌, ◌≤◌, ℤ, List, [], ◌∷◌, ◌++◌, filter, length, take, get_or, map, Bool, true, false, cond, ◌&&◌, Option, Some, None, Result, Ok, Err, inl}
+use Rattle.std.proofs.Common.{◌≡◌, ◌∙◌, refl, sym, ap, subst, ℕ, ◌+◌, ◌<◌, ◌≤◌, ℤ, List, [], ◌∷◌, ◌++◌, filter, length, take, get_or, map, Bool, true, Option, Some, None, Result, Ok, Err, inl}
 use Rattle.std.specs.List.{list_all}
 use Rattle.std.proofs.lemmas.List.{get_or-map, map_more, take_all}
 use Rattle.brace_model.specs.declared.program.Class.{Class}
@@ -22,6 +22,7 @@ use Rattle.brace_pieces.specs.Continued.{becomes, totals_of}
 use Rattle.brace_part.specs.Parts.{IsCauseOf, cause_of}
 use Rattle.brace_part.specs.inner.Asked.{HasRulesOf}
 use denote.Ref.{Bor}
+use Rattle.brace_part.proofs.LawfulOn.{some_pass}
 
 totals_are : (said : List Saying) (a : Agent) (o : Option Class) → totals_of said a o ≡ totals_from 0 a.id (effects_in o) said
 totals_are said a None = refl
@@ -85,17 +86,6 @@ pub same_left : (rs : List (Result Next Fault)) (stay after born more : List Age
     → SoFar rs stay born found → SoFar rs after more last
 same_left rs stay after born more found last lives bears first h = record { lives = lives ∙ h.lives; births = bears ∙ h.births; first = first ∙ h.first }
 
--- of elements that all pass a test those that are chosen pass it
-chosen_case : {A : Type 0} (P : A → Bool) (x : A) (xs ys : List A) (q p : Bool) → P x ≡ p → (p && list_all P xs) ≡ true
-    → (list_all P xs ≡ true → list_all P ys ≡ true) → list_all P (cond q (x ∷ ys) ys) ≡ true
-chosen_case P x xs ys q false is none rest = absurd (let no_way : false ≡ true = none in cc)
-chosen_case P x xs ys true true is all rest = ap₂ (λ a b. a && b) is (rest all)
-chosen_case P x xs ys false true is all rest = rest all
-
-pub all_chosen : {A : Type 0} (P Q : A → Bool) (xs : List A) → list_all P xs ≡ true → list_all P (filter Q xs) ≡ true
-all_chosen P Q [] all = refl
-all_chosen P Q (x ∷ xs) all = chosen_case P x xs (filter Q xs) (Q x) (P x) refl all (all_chosen P Q xs)
-
 -- ---- by a program that has the rules of a script
 
 module _ (s : Setting) (p : Program) (has : HasRulesOf s.job.program p) where
@@ -103,7 +93,7 @@ module _ (s : Setting) (p : Program) (has : HasRulesOf s.job.program p) where
   pub own_lawful : (Q : Agent → Bool) (held own : List Agent) → own ≡ filter Q held → list_all (is_lawful_agent s.job.program) held ≡ true
       → list_all (is_lawful_agent s.job.program) own ≡ true
   own_lawful Q held own is all =
-      ap (list_all (is_lawful_agent s.job.program)) is ∙ all_chosen (is_lawful_agent s.job.program) Q held all
+      ap (list_all (is_lawful_agent s.job.program)) is ∙ some_pass (is_lawful_agent s.job.program) Q held all
 
   pub lawful_too : (own : List Agent) → list_all (is_lawful_agent s.job.program) own ≡ true → list_all (is_lawful_agent p) own ≡ true
   lawful_too own all = ap (λ (f : Agent → Bool). list_all f own) (λ i a. has.lawful a i) ∙ all

@@ -1,5 +1,5 @@
 -- Of agents whose ids rise one has an id.
-use Rattle.std.proofs.Common.{◌≡◌, ◌∙◌, refl, sym, ap, ℕ, ◌<◌, ◌≤◌, List, length, get_or, arith, Some, Ok, Err, ◌⊎◌, inl, inr, ⊎_elim}
+use Rattle.std.proofs.Common.{◌≡◌, ◌∙◌, sym, ap, ℕ, ◌<◌, ◌≤◌, List, length, get_or, arith, Some, Ok, Err, ◌⊎◌, inl, inr, ⊎_elim}
 use Rattle.std.specs.List.Sorted.{IsBinarySearchResult}
 use Rattle.std.specs.Ordering.{nat_cmp, ordering_index}
 use Rattle.std.specs.Cmp.{nat_cmp_is}
@@ -11,34 +11,23 @@ use Rattle.std.specs.Prelude.{slice_get}
 use Rattle.std.specs.List.{Contains}
 use Rattle.std.proofs.lemmas.Bool.{cases_lt}
 use Rattle.std.proofs.lemmas.List.{length-map}
-use Rattle.std.proofs.lemmas.List.Kept.{AllPairs-from_increasing}
-use Rattle.std.proofs.lemmas.Option.{slice_get_read}
+use Rattle.std.proofs.lemmas.Option.{slice_get-get_or}
 use Rattle.brace_model.specs.declared.world.Agent.{Agent}
 use Rattle.brace_model.specs.World.{RisesById, ids}
 use Rattle.brace_model.proofs.WorldLemmas.{id_at}
-use Rattle.brace_num.proofs.Orders.{rises_by_keys}
+use Rattle.brace_num.proofs.Orders.{rises_by_keys, rising_differ}
+use Rattle.brace_part.proofs.HoldLemmas.{stands_where}
 
 module _ (agents : List Agent) (rises : RisesById agents) where
-  -- one place has an id
-  one_place : (i j : ℕ) → i < length agents → j < length agents → get_or (ids agents) i 0 ≡ get_or (ids agents) j 0 → i ≡ j
-  one_place i j low high same =
-      let long : length (ids agents) ≡ length agents = length-map agents (λ (a : Agent). a.id) in
-      ⊎_elim
-      (λ (less : i < j). let below = AllPairs-from_increasing (ids agents) rises i j 0 less (omega (arith, long, high)) in absurd (omega (arith, below, same)))
-      (λ (more : j ≤ i).
-      ⊎_elim
-      (λ (less : j < i). let below = AllPairs-from_increasing (ids agents) rises j i 0 less (omega (arith, long, low)) in absurd (omega (arith, below, same)))
-      (λ (back : i ≤ j). omega (arith, more, back))
-      (cases_lt j i))
-      (cases_lt i j)
-
   -- where an id stands, the agent that has it stands
   pub stands_there : (place target : ℕ) (a : Agent) → place < length agents → get_or (ids agents) place 0 ≡ target
       → Contains agents a → a.id ≡ target → slice_get agents place ≡ Some a
-  stands_there place target a low at (k, high, is) named =
-      let there : get_or (ids agents) k 0 ≡ a.id = id_at agents k a high ∙ ap (λ (b : Agent). b.id) is in
-      let same : place ≡ k = one_place place k low high (at ∙ sym named ∙ sym there) in
-      slice_get_read agents (length agents) place a refl low (sym (ap (λ (n : ℕ). get_or agents n a) same ∙ is))
+  stands_there place target a low at has named =
+      let long : length (ids agents) ≡ length agents = length-map agents (λ (b : Agent). b.id) in
+      let id : Agent → ℕ = λ b. b.id in
+      stands_where agents place a (rising_differ id agents (rises_by_keys id agents rises))
+      (slice_get-get_or (ids agents) place 0 (omega (arith, long, low))
+      ∙ ap Some (at ∙ sym named)) has
 
   no_falls : (i j : ℕ) (d : Agent) → (i ≡ j) ⊎ (i < j) → j < length agents → (get_or agents i d).id ≤ (get_or agents j d).id
   no_falls i j d (inl same) within = let one = ap (λ (k : ℕ). (get_or agents k d).id) same in omega (arith, one)

@@ -1,9 +1,8 @@
 -- The shares of agents, one effect and one agent after another.
-use Rattle.std.proofs.Common.{◌≡◌, ◌∙◌, refl, sym, ap, ap₂, subst, ℕ, zero, suc, ◌+◌, ◌<◌, ◌≤◌, min, ℤ, pos, ◌+ℤ◌, ◌<ℤ◌, ◌≤ℤ◌, List, [], ◌∷◌, ◌++◌, length, take, get_or, map, flat_map, Bool, true, false, cond, Option, Some, None, IfSome, arith, add-one, append_assoc, append-nil}
+use Rattle.std.proofs.Common.{◌≡◌, ◌∙◌, refl, sym, ap, ap₂, subst, ℕ, zero, suc, ◌+◌, ◌<◌, ◌≤◌, min, ℤ, pos, ◌+ℤ◌, ◌<ℤ◌, ◌≤ℤ◌, List, [], ◌∷◌, ◌++◌, length, take, get_or, map, flat_map, Bool, true, false, cond, Option, Some, None, IfSome, arith, append_assoc, append-nil}
 use Rattle.std.proofs.lemmas.Int.{ints}
 use Rattle.std.proofs.lemmas.Grind.{flat_map-append, common_steps}
 use Rattle.std.proofs.lemmas.List.Elements.{filter-append}
-use Rattle.std.proofs.Math.Seq.{take-suc}
 use Rattle.brace_model.specs.declared.program.Class.{Class}
 use Rattle.brace_model.specs.declared.program.Effect.{Effect}
 use Rattle.brace_model.specs.declared.program.Program.{Program}
@@ -21,9 +20,7 @@ use Rattle.brace_cuts.specs.declared.space.Cuts.{Cuts}
 use Rattle.brace_pieces.specs.Owned.{owns, owned}
 use Rattle.brace_pieces.specs.Right.{Share, share_unless_silent, shares_from, shares_to}
 use Rattle.brace_part.specs.inner.Tables.{share_with, shares_in}
-
-take_more : {A : Type 0} (xs : List A) (i : ℕ) (x : A) → i < length xs → x ≡ get_or xs i x → take (i + 1) xs ≡ take i xs ++ x ∷ []
-take_more xs i x le is = ap (λ n. take n xs) (add-one i) ∙ take-suc xs i x le ∙ ap (λ y. take i xs ++ y ∷ []) (sym is)
+use Rattle.brace_num.proofs.Lists.{take_next}
 
 shares_snoc : (n id : ℕ) (effects : List Effect) (e : Effect) (said : List Saying)
     → shares_from n id (effects ++ e ∷ []) said ≡ shares_from n id effects said ++ share_unless_silent id (n + length effects) e (said_to id (n + length effects) said)
@@ -42,7 +39,7 @@ pub more_shares : (id : ℕ) (effects : List Effect) (said : List Saying) (i : �
 more_shares id effects said i e le is =
     let long : length (take i effects) ≡ i = grind (arith, le, common_steps) in
     let at : 0 + length (take i effects) ≡ i = omega (arith, long) in
-    ap (λ (l : List Effect). shares_from 0 id l said) (take_more effects i e le is)
+    ap (λ (l : List Effect). shares_from 0 id l said) (take_next effects i e le is)
     ∙ shares_snoc 0 id (take i effects) e said
     ∙ ap (λ (m : ℕ). shares_from 0 id (take i effects) said ++ share_unless_silent id m e (said_to id m said)) at
 
@@ -141,7 +138,7 @@ module _ (program : Program) (cuts : Cuts) (to : ℕ) where
   owned_more : (agents : List Agent) (i : ℕ) (a : Agent) (b : Bool) → i < length agents → a ≡ get_or agents i a → owns program cuts to a ≡ b
       → owned program cuts to (take (i + 1) agents) ≡ owned program cuts to (take i agents) ++ cond b (a ∷ []) []
   owned_more agents i a b le is test =
-      ap (owned program cuts to) (take_more agents i a le is)
+      ap (owned program cuts to) (take_next agents i a le is)
       ∙ filter-append (owns program cuts to) (take i agents) (a ∷ [])
       ∙ ap (λ (c : Bool). owned program cuts to (take i agents) ++ cond c (a ∷ []) []) test
 

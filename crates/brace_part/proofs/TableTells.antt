@@ -1,6 +1,5 @@
 -- What entries and pieces tell, one by one.
-use Rattle.std.proofs.Common.{◌≡◌, ◌∙◌, refl, sym, ap, subst, ℕ, suc, ◌+◌, ◌<◌, ◌≤◌, List, [], ◌∷◌, ◌++◌, length, drop, get_or, arith, add-one, append_assoc, append-nil, Result, Ok, Err, OnOk}
-use Rattle.std.proofs.Math.Seq.{drop-cons}
+use Rattle.std.proofs.Common.{◌≡◌, ◌∙◌, refl, sym, ap, subst, ℕ, ◌+◌, ◌<◌, ◌≤◌, List, [], ◌∷◌, ◌++◌, length, drop, get_or, arith, append_assoc, append-nil, Result, Ok, Err, OnOk}
 use Rattle.std.proofs.lemmas.Grind.{common_steps}
 use Rattle.brace_model.specs.declared.program.Program.{Program}
 use Rattle.brace_model.specs.declared.fault.Fault.{Fault}
@@ -12,6 +11,7 @@ use Rattle.brace_eval.specs.Heard.{IsHeard}
 use Rattle.brace_pieces.specs.declared.piece.Piece.{Piece}
 use Rattle.brace_pieces.specs.declared.piece.Piece.TheVariants as piece
 use Rattle.brace_part.specs.inner.Tables.{TellsOf, TellsBy, no_entry, one_entry, TellBy, no_piece, one_piece}
+use Rattle.std.proofs.lemmas.List.{drop_more}
 
 -- what is told so far was heard, and the rest is still told
 pub record SoFarTold (program : Program) (held : List Agent) (said told : List Saying) (faults : List Fault) (heard : Heard)
@@ -53,25 +53,9 @@ module _ (program : Program) (held : List Agent) where
 -- what is not heard yet of a list
 pub next_of : {A : Type 0} (xs : List A) (i : ℕ) (x : A) → i < length xs → x ≡ get_or xs i x → drop i xs ≡ x ∷ drop (i + 1) xs
 next_of xs i x le is =
-    drop-cons xs i x le ∙ ap (λ y. y ∷ drop (suc i) xs) (sym is) ∙ ap (λ n. x ∷ drop n xs) (sym (add-one i))
-
--- the same, whatever stands for one that is not there
-pub next_at : {A : Type 0} (xs : List A) (i : ℕ) (d : A) → i < length xs
-    → drop i xs ≡ get_or xs i d ∷ drop (i + 1) xs
-next_at xs i d le = drop-cons xs i d le ∙ ap (λ n. get_or xs i d ∷ drop n xs) (sym (add-one i))
+    drop_more xs i x le ∙ ap (λ y. y ∷ drop (i + 1) xs) (sym is)
 
 module _ (program : Program) (held : List Agent) (said told : List Saying) (faults : List Fault) where
-  -- nothing is heard yet
-  pub told_first : (heard : Heard) (Tell : List Saying → Type 0) → IsHeard program held said faults heard → Tell told
-      → SoFarTold program held said told faults heard Tell
-  told_first heard Tell h t = record {
-    done = [];
-    rest = told;
-    all = refl;
-    hears = subst (λ (l : List Saying). IsHeard program held l faults heard) (sym (append-nil said)) h;
-    tells = t;
-  }
-
   -- one more is heard
   pub told_next : (before after : Heard) (Tell One More : List Saying → Type 0)
       → ((rest : List Saying) → Tell rest → OneMore One More rest)
@@ -98,7 +82,7 @@ module _ (program : Program) (held : List Agent) (said told : List Saying) (faul
       told_next before after (TellsBy program held (drop i entries)) (TellsOf program held (get_or entries i d))
       (TellsBy program held (drop (i + 1) entries))
       (λ rest t. entry_more program held (get_or entries i d) (drop (i + 1) entries) rest
-      (subst (λ (l : List Entry). TellsBy program held l rest) (next_at entries i d le) t))
+      (subst (λ (l : List Entry). TellsBy program held l rest) (drop_more entries i d le) t))
       (λ first xs h one. hears xs first faults h one) so
 
   -- all is heard

@@ -49,17 +49,10 @@ use Rattle.brace_part.specs.inner.Ready.{own_in, left_in, children_in, updates_i
 use Rattle.brace_part.specs.inner.Sound.{IsWorker}
 use Rattle.brace_part.specs.inner.Tables.{said_over, faults_over, TellBy}
 use Rattle.brace_part.proofs.LawfulOn.{on_lawful, some_pass, some_few}
-use Rattle.brace_num.proofs.Lists.{in_more}
+use Rattle.brace_num.proofs.Lists.{map_alike, All-place, filter_weaker}
 use Rattle.brace_num.proofs.Orders.{filter_rises}
-use Rattle.brace_num.proofs.Lists.{All-place}
-use Rattle.brace_num.proofs.Lists.{filter_weaker}
 
 -- ---- lists
-
-pub mapped_alike : {A B : Type 0} (f g : A → B) (xs : List A)
-    → ((x : A) → Contains xs x → f x ≡ g x) → map f xs ≡ map g xs
-mapped_alike f g [] same = refl
-mapped_alike f g (x ∷ xs) same = ap₂ (λ y ys. y ∷ ys) (same x (0, omega arith, refl)) (mapped_alike f g xs (λ y h. same y (in_more x xs y h)))
 
 -- where no update faults, agents leave what becomes of them
 pub all_leave : (f : Agent → Result Next Fault) (xs : List Agent)
@@ -210,7 +203,7 @@ module _ (worker : Worker) (part : IsWorker worker) (t : ℕ) where
   results agents it h =
       ap (λ xs. map (becomes s t h.told) (own s t p xs)) h.holds
       ∙ ap (map (becomes s t h.told)) own_of_near
-      ∙ sym (mapped_alike (becomes s t (said s t w)) (becomes s t h.told) (own s t p w) (λ a there. h.becomes_so a there))
+      ∙ sym (map_alike (becomes s t (said s t w)) (becomes s t h.told) (own s t p w) (λ a there. h.becomes_so a there))
 
   -- a fact on what becomes of the agents, whatever was heard
   abbrev pub OfResults : List Agent → Heard → (List (Result Next Fault) → Type 0) → Type 0

@@ -14,7 +14,7 @@ use Rattle.brace_pieces.specs.Settings.{cuts_of}
 use Rattle.brace_pieces.specs.Steps.{step, met}
 use Rattle.brace_pieces.specs.Owned.{owned, owns}
 use Rattle.brace_pieces.specs.Continued.{continued, on}
-use Rattle.brace_pieces.specs.Together.{AreWhole, IsSorted}
+use Rattle.brace_pieces.specs.Together.{AreWhole}
 use Rattle.brace_pieces.specs.Heard.{near}
 use Rattle.brace_pieces.proofs.HeldLemmas.{held_together, handed_together}
 use Rattle.brace_pieces.proofs.MoveLemmas.{moved_together}
@@ -69,11 +69,11 @@ module _ (worker : Worker) (part : IsWorker worker) (t : ℕ) (pieces : List Pie
       (moved_together run part.lawful t worker.part part.is_part world up on_all
       (subst (λ w. AreWhole run.job.program w.agents) next (whole worker part (t + 1)))))
 
--- behind what it keeps come those that were sorted
-pub sorted_behind : (own taken more : List Agent) → IsSorted taken more
+-- behind what it keeps come those that were gathered
+pub gathered_behind : (own taken more : List Agent) → IsPermutation taken more
     → IsPermutation (own ++ taken) (own ++ more)
-sorted_behind own taken more sorted =
-    IsPermutation-append own own taken more (IsPermutation-refl own) sorted.same
+gathered_behind own taken more same =
+    IsPermutation-append own own taken more (IsPermutation-refl own) same
 
 -- those that a part owns of two lists, before others
 pub kept_both : (program : Program) (cuts : Cuts) (p : ℕ) (left born taken : List Agent)

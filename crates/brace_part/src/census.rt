@@ -164,6 +164,7 @@ pub fn moves_to(
     left: &Moved,
     born: &[Agent],
     to: u32,
+    used: &mut Vec<Agent>,
 ) -> Result<List<Agent>, NoMemory>
     requires plan { IsPlan setting.now.epoch setting.now.cuts }
     requires is_part { to < parts setting.now }
@@ -172,7 +173,7 @@ pub fn moves_to(
         ≡ owned setting.now.job.program (cuts_of setting.now tick) to (agents ++ born.now)) }
 {
     let cuts = setting.cuts.cuts_at(tick);
-    let mut found = agents_of(alloc, &setting.job.program, cuts, to, left)?.into_vec();
+    let mut found = agents_of(alloc, &setting.job.program, cuts, to, left, used)?.into_vec();
     let mut more = moves_of(alloc, setting, tick, born, to)?.into_vec();
     found.append(&mut more)?;
     Ok(List::from_vec(found))

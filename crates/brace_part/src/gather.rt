@@ -1,4 +1,5 @@
 ghost use Rattle.std.specs.Prelude.{◌≡◌, ◌++◌, [], flat_map, IfOk, IfSome, IfNone, OnOk};
+ghost use Rattle.std.specs.List.Sorted.{IsPermutation};
 ghost use Rattle.std.specs.Vec.{vec_capacity};
 ghost use Rattle.brace_model.specs.World.{RisesById};
 ghost use Rattle.brace_cuts.specs.Space.{LawfulCuts};
@@ -8,9 +9,9 @@ ghost use Rattle.brace_pieces.specs.Together.{IsSorted};
 ghost use Rattle.brace_part.specs.inner.Pieces.{brought};
 
 use brace_cuts::Cuts;
-use brace_model::{Agent, Program};
+use brace_model::{Agent, Program, rises};
 use brace_num::{List, NoMemory};
-use brace_pieces::{Piece, owns};
+use brace_pieces::{Piece, owns, sorted};
 
 /// The agents that a piece brings, if it brings some.
 fn list_in(piece: Piece) -> Option<List<Agent>>
@@ -29,10 +30,10 @@ fn list_in(piece: Piece) -> Option<List<Agent>>
     }
 }
 
-/// Some agents and all that pieces bring, by rising id. The pieces go, and their places stay.
+/// Some agents and all that pieces bring, in some order. The pieces go, and their places stay.
 pub fn gathered(mut agents: Vec<Agent>, pieces: &mut Vec<Piece>) -> Result<Vec<Agent>, NoMemory>
-    ensures sorted { IfOk result (λ all.
-        IsSorted (agents.items ++ flat_map brought pieces.old.items) all.items) }
+    ensures same { IfOk result (λ all.
+        IsPermutation (agents.items ++ flat_map brought pieces.old.items) all.items) }
     ensures places { vec_capacity pieces.new ≡ vec_capacity pieces.old }
 {
     while let Some(piece) = pieces.pop() {
@@ -40,28 +41,7 @@ pub fn gathered(mut agents: Vec<Agent>, pieces: &mut Vec<Piece>) -> Result<Vec<A
             agents.append(&mut more.into_vec())?;
         }
     }
-    agents.sort_by_key(|a| a.id)?;
     Ok(agents)
-}
-
-/// Agents by rising id.
-pub fn sorted(mut agents: Vec<Agent>) -> Result<Vec<Agent>, NoMemory>
-    ensures { IfOk result (λ all. IsSorted agents.items all.items) }
-{
-    agents.sort_by_key(|a| a.id)?;
-    Ok(agents)
-}
-
-/// Answers NoMemory where ids do not rise.
-fn expect_rising(agents: &[Agent]) -> Result<(), NoMemory>
-    ensures { OnOk result (RisesById agents.now) }
-{
-    for i in 1..agents.len() {
-        if agents[i - 1].id >= agents[i].id {
-            return Err(NoMemory);
-        }
-    }
-    Ok(())
 }
 
 /// Agents by rising id; `NoMemory` where two have one id.
@@ -69,8 +49,11 @@ pub fn by_rising_id(agents: Vec<Agent>) -> Result<Vec<Agent>, NoMemory>
     ensures { IfOk result (λ all. all.items ≡ by_id agents.items) }
 {
     let all = sorted(agents)?;
-    expect_rising(&all)?;
-    Ok(all)
+    if rises(all.as_slice()) {
+        Ok(all)
+    } else {
+        Err(NoMemory)
+    }
 }
 
 /// Those of some agents that a part owns under some cuts.

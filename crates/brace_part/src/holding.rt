@@ -1,14 +1,14 @@
-ghost use Rattle.std.specs.Prelude.{◌≡◌, ◌≤◌, ◌^◌, ◌++◌, [], List, map, slice_get, Some, IfOk, OnOk};
+ghost use Rattle.std.specs.Prelude.{◌≡◌, ◌<◌, ◌≤◌, ◌^◌, ◌++◌, [], List, map, slice_get, Some, IfOk, OnOk};
 ghost use Rattle.std.specs.List.Sorted.{IsPermutation};
 ghost use Rattle.brace_model.specs.declared.program.Program.{Program};
 ghost use Rattle.brace_model.specs.declared.world.Agent.{Agent};
 ghost use Rattle.brace_model.specs.Query.{Saying};
 ghost use Rattle.brace_model.specs.World.{class_of};
-ghost use Rattle.brace_cuts.specs.Space.{LawfulCuts};
+ghost use Rattle.brace_cuts.specs.Space.{LawfulCuts, parts_of};
 ghost use Rattle.brace_eval.specs.Heard.{effects_in};
 ghost use Rattle.brace_fold.specs.Arranged.{in_places};
 ghost use Rattle.brace_fold.specs.Asked.{by_row};
-ghost use Rattle.brace_fold.specs.Rows.{by_id};
+ghost use Rattle.brace_fold.specs.Rows.{AreMoved, by_id};
 ghost use Rattle.brace_fold.specs.Sums.{AreSummed};
 ghost use Rattle.brace_pieces.specs.Right.{share_of, shares_from};
 ghost use Rattle.brace_part.specs.inner.Asked.{ArePlaces};
@@ -16,16 +16,15 @@ ghost use Rattle.brace_part.specs.inner.Hearing.{CanSay, CanSum};
 ghost use Rattle.brace_part.specs.inner.Holding.{IsSummed};
 ghost use Rattle.brace_part.specs.inner.Tables.{said_over, faults_over, shares_in};
 
-use crate::near::number_at;
+use crate::near::{item_at, number_at, owns_at, rows_by_id, widened};
 use crate::query::Queries;
 use crate::tell::entry_of;
 use brace_comb::Entry;
 use brace_cuts::Cuts;
-use brace_eval::effects_of;
 use brace_fold::{Arranged, Moved, Redo, Table, expect_wide, most_effects, views};
 use brace_model::{Agent, Effect, Program};
 use brace_num::{List, NoMemory};
-use brace_pieces::{Setting, owns};
+use brace_pieces::Setting;
 use std::alloc::Global;
 
 /// The agents that a part holds in a tick, its own ones and those of others, in columns in the
@@ -34,9 +33,9 @@ use std::alloc::Global;
 pub struct Held {
     /// The places of its own agents.
     pub own: Vec<u32>,
-    /// The others, by rising id.
+    /// The others.
     pub guests: Vec<Agent>,
-    /// The places of the others.
+    /// The places of the others, by rising id.
     pub places: Vec<u32>,
     pub rows: Moved,
     /// What was said to them, place by place.
@@ -106,7 +105,8 @@ impl Queries {
         let arranged = Arranged::of(alloc, program, &columns)?;
         arranged.rows.expect_listed(alloc, program)?;
         let own = arranged.first(alloc, count)?;
-        let places = arranged.rest(alloc, count, guests.len())?;
+        let rest = arranged.rest(alloc, count, guests.len())?;
+        let places = rows_by_id(arranged.rows.ids.as_slice(), rest)?;
         let said = self.said_to(alloc, setting, tick, &arranged, &own)?;
         Ok(Held {
             own,
@@ -115,6 +115,16 @@ impl Queries {
             rows: arranged.rows,
             said,
         })
+    }
+}
+
+/// The effects of a class of a number; none where there is no such class.
+fn effects_at(program: &Program, number: u32) -> &[Effect]
+    ensures { result.now ≡ effects_in (slice_get program.now.classes number) }
+{
+    match program.classes.as_slice().get(number as usize) {
+        Some(class) => class.effects.as_slice(),
+        None => &[],
     }
 }
 
@@ -158,22 +168,33 @@ impl Held {
         to: u32,
     ) -> Result<List<Entry>, NoMemory>
         requires cuts { LawfulCuts cuts.now }
+        requires part { to < parts_of cuts.now }
         ensures told { IfOk result (λ entries. (all : List Agent) (said : List Saying)
-            → ArePlaces all self.now.guests.items self.now.places.items
-            → AreSummed program.now all said self.now.said
-            → map share_of entries ≡ shares_in program.now cuts.now to self.now.guests.items said) }
+            → AreMoved all self.now.rows
+            → ArePlaces all (by_id self.now.guests.items) self.now.places.items
+            → AreSummed program.now all said self.now.said → map share_of entries
+            ≡ shares_in program.now cuts.now to (by_id self.now.guests.items) said) }
     {
+        let area = widened(&cuts.area(to), 0);
         let mut entries = List::new(alloc);
-        for k in 0..self.guests.len() {
-            let b = &self.guests[k];
-            if owns(program, cuts, to, b) {
-                let Some(place) = number_at(&self.places, k) else {
-                    return Err(NoMemory);
-                };
+        for k in 0..self.places.len() {
+            let Some(place) = number_at(&self.places, k) else {
+                return Err(NoMemory);
+            };
+            let Some(id) = item_at(&self.rows.ids, place as usize) else {
+                return Err(NoMemory);
+            };
+            let Some(number) = number_at(&self.rows.classes, place as usize) else {
+                return Err(NoMemory);
+            };
+            let Ok(theirs) = owns_at(program, &self.rows, &area, number, place) else {
+                return Err(NoMemory);
+            };
+            if theirs {
                 add_sums(
                     &mut entries,
-                    b.id,
-                    effects_of(program, b),
+                    id,
+                    effects_at(program, number),
                     &self.said,
                     place,
                 )?;

@@ -1,23 +1,23 @@
-ghost use Rattle.std.specs.Prelude.{◌≡◌, ℤ, ◌<◌, ◌≤◌, ◌+◌, ◌++◌, [], ◌∷◌, List, Some, Bool, pos, ◌≤ℤ◌, filter, if◌then◌else◌, length, slice_get, IsTrue, IfOk, IfSome, IfNone};
+ghost use Rattle.std.specs.Prelude.{◌≡◌, ℕ, ℤ, ◌<◌, ◌≤◌, ◌+◌, ◌++◌, [], ◌∷◌, List, Some, Bool, pos, ◌≤ℤ◌, filter, if◌then◌else◌, length, slice_get, slice_index_or, IsTrue, IfOk, IfSome, IfNone};
 ghost use Rattle.std.specs.Bool.{OnTrue};
 ghost use Rattle.std.specs.List.{All, list_all};
-ghost use Rattle.std.specs.List.Sorted.{IsPermutation};
+ghost use Rattle.std.specs.List.Sorted.{IsNonDecreasingBy, IsPermutation};
 ghost use Rattle.std.specs.Vec.{vec_len, vec_capacity};
 ghost use Rattle.brace_num.specs.declared.kinds.Area.{Area};
 ghost use Rattle.brace_model.specs.declared.program.Program.{Program};
 ghost use Rattle.brace_model.specs.declared.world.Agent.{Agent};
 ghost use Rattle.brace_model.specs.Lawful.{is_lawful_agent};
 ghost use Rattle.brace_model.specs.World.{RisesById};
-ghost use Rattle.brace_cuts.specs.Space.{LawfulCuts, parts_of};
+ghost use Rattle.brace_cuts.specs.declared.space.Cuts.{Cuts};
+ghost use Rattle.brace_cuts.specs.Space.{LawfulCuts, area_of, parts_of};
 ghost use Rattle.brace_fold.specs.declared.order.Moved.{Moved};
 ghost use Rattle.brace_fold.specs.Listed.{AreListed, AreStored, agents_in};
 ghost use Rattle.brace_fold.specs.Rows.{AreMoved};
 ghost use Rattle.brace_invert.specs.Held.{is_near};
-ghost use Rattle.brace_pieces.specs.Owned.{owned};
+ghost use Rattle.brace_pieces.specs.Owned.{owned, owns};
 ghost use Rattle.brace_part.specs.inner.Asked.{ArePlaces};
 ghost use Rattle.brace_part.specs.inner.Near.{AreAxes, AreNear, IsWidened, StandsFit, has_point};
 
-use crate::gather::sorted;
 use brace_cuts::Cuts;
 use brace_fold::{Moved, Redo, columns_of};
 use brace_model::{Agent, Area, Program};
@@ -98,7 +98,7 @@ fn led<'a>(
 }
 
 /// The area of the points within a range of another one.
-fn widened(area: &Area, range: i64) -> Area
+pub fn widened(area: &Area, range: i64) -> Area
     requires { pos 0 ≤ℤ range }
     ensures { IsWidened area.now range result }
 {
@@ -129,6 +129,27 @@ fn is_near_at(axes: &Axes, wide: &Area, row: usize) -> bool
         → a.class ≡ axes.now.class → StandsFit program a }
 {
     is_in(wide, axes.xs[row], axes.ys[row])
+}
+
+/// Whether a part of an area owns the agent of a row, which is of a class of a number.
+pub fn owns_at(
+    program: &Program,
+    rows: &Moved,
+    area: &Area,
+    number: u32,
+    row: u32,
+) -> Result<bool, Redo>
+    ensures { IfOk result (λ theirs. (cuts : Cuts) (part : ℕ) (agents : List Agent) (a : Agent)
+        → LawfulCuts cuts → part < parts_of cuts → IsWidened (area_of cuts part) (pos 0) area.now
+        → AreMoved agents rows.now → slice_get agents row ≡ Some a → a.class ≡ number
+        → theirs ≡ owns program.now cuts part a) }
+{
+    let axes = axes_of(program, rows, number)?;
+    let row = row as usize;
+    if row >= axes.xs.len() || row >= axes.ys.len() {
+        return Err(Redo);
+    }
+    Ok(is_near_at(&axes, area, row))
 }
 
 /// Adds a row that is wanted, where there is room.
@@ -174,13 +195,32 @@ fn rows_near(
     Ok(near)
 }
 
-/// Of agents in columns those that stand within a range of an area, by rising id.
+/// The id of a row; 0 where there is no such row.
+fn id_at(ids: &[u64], row: u32) -> u64
+    ensures { result ≡ slice_index_or ids.now row 0 }
+{
+    ids.get(row as usize).copied().unwrap_or(0)
+}
+
+/// Rows by rising id.
+pub fn rows_by_id(ids: &[u64], mut rows: Vec<u32>) -> Result<Vec<u32>, Redo>
+    ensures same { IfOk result (λ sorted. IsPermutation rows.items sorted.items) }
+    ensures in_order { IfOk result (λ sorted.
+        IsNonDecreasingBy (λ row. slice_index_or ids.now row 0) sorted.items) }
+{
+    rows.sort_by_key(|row| id_at(ids, *row))?;
+    Ok(rows)
+}
+
+/// Of agents in columns those that stand within a range of an area, by rising id. Their states are
+/// in the vectors of agents that are not needed any more, as far as there are some.
 pub fn agents_near(
     alloc: Global,
     program: &Program,
     rows: &Moved,
     area: &Area,
     range: i64,
+    used: &mut Vec<Agent>,
 ) -> Result<List<Agent>, NoMemory>
     requires { pos 0 ≤ℤ range }
     ensures near { IfOk result (λ near. (agents : List Agent)
@@ -192,10 +232,12 @@ pub fn agents_near(
     let Ok(places) = rows_near(alloc, program, rows, area, range) else {
         return Err(NoMemory);
     };
-    let Ok(near) = rows.agents_at(alloc, program, &places) else {
+    let Ok(sorted) = rows_by_id(rows.ids.as_slice(), places) else {
         return Err(NoMemory);
     };
-    let near = sorted(near)?;
+    let Ok(near) = rows.agents_at(alloc, program, &sorted, used) else {
+        return Err(NoMemory);
+    };
     Ok(List::from_vec(near))
 }
 
@@ -206,13 +248,14 @@ pub fn agents_of(
     cuts: &Cuts,
     part: u32,
     rows: &Moved,
+    used: &mut Vec<Agent>,
 ) -> Result<List<Agent>, NoMemory>
     requires cuts { LawfulCuts cuts.now }
     requires part { part < parts_of cuts.now }
     ensures { IfOk result (λ theirs. (agents : List Agent) → AreStored program.now agents rows.now
         → theirs ≡ owned program.now cuts.now part agents) }
 {
-    let theirs = agents_near(alloc, program, rows, &cuts.area(part), 0)?;
+    let theirs = agents_near(alloc, program, rows, &cuts.area(part), 0, used)?;
     Ok(theirs)
 }
 

@@ -45,6 +45,8 @@ pub struct Part<'a> {
     course: Course<'a>,
     queries: Queries,
     standing: Standing,
+    /// Agents that are not needed any more: guests of a tick.
+    used: Vec<Agent>,
     cause: Option<Cause>,
 }
 
@@ -178,6 +180,7 @@ fn prepare(
     alloc: Global,
     course: &Course,
     queries: &Queries,
+    used: &mut Vec<Agent>,
     standing: &mut Standing,
 ) -> Result<(), NoMemory>
     requires part { IsPartOf course.now.setting course.now.actor queries.now }
@@ -209,7 +212,7 @@ fn prepare(
         next: standing.next,
     };
     let counts = &mut standing.counts;
-    standing.out = prepared(&worker, at, &standing.stance, course.others(), counts)?;
+    standing.out = prepared(&worker, at, &standing.stance, course.others(), used, counts)?;
     Ok(())
 }
 
@@ -220,6 +223,7 @@ fn advance(
     queries: &Queries,
     number: u64,
     at: Step,
+    used: &mut Vec<Agent>,
     standing: &mut Standing,
 ) -> Result<(), Cause>
     requires part { IsPartOf course.now.setting course.now.actor queries.now }
@@ -248,11 +252,11 @@ fn advance(
     };
     standing.next = next_behind(at, &standing.stance, standing.next);
     let stance = mem::replace(&mut standing.stance, nothing(alloc));
-    standing.stance = worker.worked(at, stance, &mut standing.taken)?;
+    standing.stance = worker.worked(at, stance, &mut standing.taken, used)?;
     let (stance, shown) = (&standing.stance, &mut standing.shown);
     note_next(alloc, course.setting(), at, stance, standing.next, shown)?;
     standing.taken.clear();
-    prepare(alloc, course, queries, standing)?;
+    prepare(alloc, course, queries, used, standing)?;
     Ok(())
 }
 
@@ -296,12 +300,14 @@ impl<'a> Part<'a> {
                 shown,
             )?;
         }
-        prepare(alloc, &course, &queries, &mut standing)?;
+        let mut used = Vec::new(alloc);
+        prepare(alloc, &course, &queries, &mut used, &mut standing)?;
         Ok(Part {
             alloc,
             course,
             queries,
             standing,
+            used,
             cause: None,
         })
     }
@@ -459,7 +465,15 @@ impl<'a> Actor<Piece> for Part<'a> {
         }
         if let Some(at) = at {
             let (course, queries) = (&self.course, &self.queries);
-            let worked = advance(self.alloc, course, queries, number, at, &mut self.standing);
+            let worked = advance(
+                self.alloc,
+                course,
+                queries,
+                number,
+                at,
+                &mut self.used,
+                &mut self.standing,
+            );
             if let Err(cause) = worked {
                 self.cause = Some(cause);
             }

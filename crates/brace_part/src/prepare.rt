@@ -13,12 +13,19 @@ use crate::standing::Stance;
 use crate::tell::told_to;
 use crate::work::Worker;
 use brace_invert::range;
+use brace_model::Agent;
 use brace_num::{List, NoMemory};
 use brace_pieces::{Piece, Shown, Stage, Step};
 use std::alloc::Global;
 
 /// What a part puts to another in a step that shows nothing to the publisher.
-fn piece_for(worker: &Worker, at: Step, stance: &Stance, to: u32) -> Result<Piece, NoMemory>
+fn piece_for(
+    worker: &Worker,
+    at: Step,
+    stance: &Stance,
+    to: u32,
+    used: &mut Vec<Agent>,
+) -> Result<Piece, NoMemory>
     requires worker { IsWorker worker.now }
     requires next { IsNext worker.now at }
     requires ready { IsReadyFor worker.now.setting.now worker.now.part at.stage at.tick stance.now }
@@ -31,11 +38,11 @@ fn piece_for(worker: &Worker, at: Step, stance: &Stance, to: u32) -> Result<Piec
     let (program, cuts) = (&setting.job.program, setting.cuts.cuts_at(tick));
     match (at.stage, stance) {
         (Stage::Hand, Stance::Owns(own)) => {
-            Ok(Piece::Hand(agents_of(alloc, program, cuts, to, own)?))
+            Ok(Piece::Hand(agents_of(alloc, program, cuts, to, own, used)?))
         }
         (Stage::Border, Stance::Owns(own)) => {
             let (area, range) = (cuts.area(to), range(program, setting.invert));
-            Ok(Piece::Border(agents_near(alloc, program, own, &area, range)?))
+            Ok(Piece::Border(agents_near(alloc, program, own, &area, range, used)?))
         }
         (Stage::Effects, Stance::Hears(held, heard)) => {
             let entries = told_to(alloc, program, cuts, to, held, heard)?;
@@ -49,7 +56,7 @@ fn piece_for(worker: &Worker, at: Step, stance: &Stance, to: u32) -> Result<Piec
             Ok(Piece::Census(census_of(alloc, program, left, born)?))
         }
         (Stage::Move, Stance::Leaves(left, born, _)) => {
-            Ok(Piece::Move(moves_to(alloc, setting, tick, left, born, to)?))
+            Ok(Piece::Move(moves_to(alloc, setting, tick, left, born, to, used)?))
         }
         _ => unreachable!(),
     }
@@ -62,6 +69,7 @@ pub fn prepared(
     at: Step,
     stance: &Stance,
     others: &[u32],
+    used: &mut Vec<Agent>,
     counts: &mut Counts,
 ) -> Result<Vec<Piece>, NoMemory>
     requires worker { IsWorker worker.now }
@@ -75,7 +83,7 @@ pub fn prepared(
 {
     let mut pieces = Vec::with_capacity(worker.alloc, others.len())?;
     for i in 0..others.len() {
-        let piece = piece_for(worker, at, stance, others[others.len() - 1 - i])?;
+        let piece = piece_for(worker, at, stance, others[others.len() - 1 - i], used)?;
         counts.add(worker.next, &piece)?;
         pieces.push(piece)?;
     }

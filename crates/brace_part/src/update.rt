@@ -18,12 +18,12 @@ ghost use Rattle.brace_part.specs.inner.Asked.{HasRulesOf};
 
 use crate::gather::kept;
 use brace_cuts::Cuts;
-use brace_eval::{Heard, with_earlier};
+use brace_eval::Heard;
 use brace_fold::{Redo, renew};
-use brace_model::{Agent, Fault, Program};
+use brace_model::{Agent, Fault, Left, Program, with_earlier};
 use brace_num::NoMemory;
 use brace_pieces::{Cause, Setting, owns};
-use brace_plan::{LeaveFault, Left, Plans, Room};
+use brace_plan::{LeaveFault, Plans, Room};
 use std::alloc::Global;
 
 /// Adds an agent, where there is one.

@@ -20,7 +20,7 @@ ghost use Rattle.brace_part.specs.inner.Ready.{HearsAll, HearsAsked, IsReadyFor,
 ghost use Rattle.brace_part.specs.inner.Sound.{IsWorker, IsWork, IsReadyTo, IsBehind, finds};
 
 use crate::census::{census_of, first_too_far, joined, numbered};
-use crate::gather::{gathered, kept, sorted};
+use crate::gather::{gathered, kept};
 use crate::holding::Held;
 use crate::joining::join_sums;
 use crate::near::{all_agents, settled, with_more};
@@ -33,7 +33,7 @@ use brace_eval::{Heard, birth_fault};
 use brace_fold::{Moved, Redo, Renewed, columns_of, expect_wide, renew_rows, views};
 use brace_model::Agent;
 use brace_num::NoMemory;
-use brace_pieces::{Cause, Piece, Setting, Stage, Step};
+use brace_pieces::{Cause, Piece, Setting, Stage, Step, sorted};
 use std::alloc::Global;
 
 /// A part at its work in the step of a number.
@@ -132,7 +132,13 @@ impl<'a> Worker<'a> {
     }
 
     /// What it has behind the queries: with inversion all is said then.
-    fn behind_queries(&self, tick: u64, own: Moved, taken: &mut Vec<Piece>) -> Result<Stance, Cause>
+    fn behind_queries(
+        &self,
+        tick: u64,
+        own: Moved,
+        taken: &mut Vec<Piece>,
+        used: &mut Vec<Agent>,
+    ) -> Result<Stance, Cause>
         requires worker { IsWorker self.now }
         requires work { IsWork self.now stage.Border tick taken.old.items }
         requires own { AreStored self.now.setting.now.job.program
@@ -148,7 +154,7 @@ impl<'a> Worker<'a> {
         let queries = self.queries;
         match queries.summed(self.alloc, self.setting, tick, count, guests, &rows) {
             Err(Redo) => self.behind_lists(tick, &rows),
-            Ok(held) => self.behind_sums(tick, held),
+            Ok(held) => self.behind_sums(tick, held, used),
         }
     }
 
@@ -167,7 +173,7 @@ impl<'a> Worker<'a> {
     }
 
     /// What it has behind queries that fault nowhere: with inversion all is said then.
-    fn behind_sums(&self, tick: u64, held: Held) -> Result<Stance, Cause>
+    fn behind_sums(&self, tick: u64, held: Held, used: &mut Vec<Agent>) -> Result<Stance, Cause>
         requires worker { IsWorker self.now }
         requires held { HoldsAsked self.now.setting.now self.now.part tick held }
         requires quiet { queries_found self.now.setting.now tick self.now.part
@@ -182,7 +188,10 @@ impl<'a> Worker<'a> {
             return Ok(Stance::Holds(held));
         }
         match self.renewed(tick, &held) {
-            Ok(renewed) => self.leaves(tick, renewed),
+            Ok(renewed) => {
+                *used = held.guests;
+                self.leaves(tick, renewed)
+            }
             Err(Redo) => self.behind_lists(tick, &held.rows),
         }
     }
@@ -287,7 +296,13 @@ impl<'a> Worker<'a> {
 
     /// What its agents leave behind all that is told of what is said to them, in columns where that
     /// can be.
-    fn behind_told_sums(&self, tick: u64, mut held: Held, taken: &[Piece]) -> Result<Stance, Cause>
+    fn behind_told_sums(
+        &self,
+        tick: u64,
+        mut held: Held,
+        taken: &[Piece],
+        used: &mut Vec<Agent>,
+    ) -> Result<Stance, Cause>
         requires worker { IsWorker self.now }
         requires work { IsWork self.now stage.Effects tick taken.now }
         requires plain { self.now.setting.now.invert ≡ false }
@@ -297,7 +312,10 @@ impl<'a> Worker<'a> {
         ensures faulted { IfErr result (IsCauseOf (finds self.now stage.Effects tick)) }
     {
         match self.renewed_told(tick, &mut held, taken) {
-            Ok(renewed) => self.leaves(tick, renewed),
+            Ok(renewed) => {
+                *used = held.guests;
+                self.leaves(tick, renewed)
+            }
             Err(Redo) => {
                 let (held, heard) = self.query(tick, &held.rows)?;
                 self.behind_told(tick, held, heard, taken)
@@ -358,7 +376,13 @@ impl<'a> Worker<'a> {
 
     /// What it has behind its work in a step, by what it had and what it took; or the least fault
     /// that it finds.
-    pub fn worked(&self, at: Step, stance: Stance, taken: &mut Vec<Piece>) -> Result<Stance, Cause>
+    pub fn worked(
+        &self,
+        at: Step,
+        stance: Stance,
+        taken: &mut Vec<Piece>,
+        used: &mut Vec<Agent>,
+    ) -> Result<Stance, Cause>
         requires worker { IsWorker self.now }
         requires work { IsWork self.now at.stage at.tick taken.old.items }
         requires ready { IsReadyFor self.now.setting.now self.now.part at.stage at.tick stance }
@@ -373,11 +397,11 @@ impl<'a> Worker<'a> {
         let tick = at.tick;
         match (at.stage, stance) {
             (Stage::Hand, Stance::Owns(own)) => Ok(Stance::Owns(self.recut(tick, own, taken)?)),
-            (Stage::Border, Stance::Owns(own)) => self.behind_queries(tick, own, taken),
+            (Stage::Border, Stance::Owns(own)) => self.behind_queries(tick, own, taken, used),
             (Stage::Effects, Stance::Hears(held, heard)) => {
                 self.behind_told(tick, held, heard, taken)
             }
-            (Stage::Effects, Stance::Holds(held)) => self.behind_told_sums(tick, held, taken),
+            (Stage::Effects, Stance::Holds(held)) => self.behind_told_sums(tick, held, taken, used),
             (Stage::Census, Stance::Leaves(left, born, _)) => {
                 self.behind_censuses(tick, left, born, taken)
             }

@@ -7,8 +7,9 @@ use Rattle.brace_model.specs.Step.{living, children}
 use Rattle.brace_model.specs.Query.{Saying}
 use Rattle.brace_eval.specs.Heard.{row_of}
 use Rattle.brace_fold.specs.declared.columns.Columns.{Columns}
-use Rattle.brace_fold.specs.declared.renewal.Ground.{Ground}
+use Rattle.brace_fold.specs.declared.renewing.Ground.{Ground}
 use Rattle.brace_fold.specs.declared.renewal.Renewed.{Renewed}
+use Rattle.brace_fold.specs.declared.table.Table.{Table}
 use Rattle.brace_fold.specs.declared.renewing.Batch.{Batch}
 use Rattle.brace_fold.specs.Asked.{by_row}
 use Rattle.brace_fold.specs.Rows.{AreMoved, rows_in}
@@ -47,9 +48,9 @@ pub record LeavesSome (program : Program) (seed tick : ℕ) (said : List Saying)
   pub kept : (before : List Agent) → AreMoved before old.left → AreMoved (before ++ left) new.left
 
 -- the same of the agents of some rows of columns, by all that was said to them
-abbrev pub LeavesRows : Ground → Columns → List ℕ → Renewed → Renewed → Type 0
-LeavesRows base columns rows old new =
+abbrev pub LeavesRows : Ground → Table → Columns → List ℕ → Renewed → Renewed → Type 0
+LeavesRows base heard columns rows old new =
     let program = base.plans.now in
-    (said : List Saying) → AreSummed program (rows_in program columns) said base.said.now
+    (said : List Saying) → AreSummed program (rows_in program columns) said heard
     → LeavesSome program base.seed base.tick said (by_row (rows_in program columns) rows)
     old new

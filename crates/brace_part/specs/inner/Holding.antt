@@ -5,7 +5,6 @@ use Rattle.std.specs.List.{Contains}
 use Rattle.std.specs.List.Sorted.{IsPermutation}
 use Rattle.brace_model.specs.declared.program.Program.{Program}
 use Rattle.brace_model.specs.declared.world.Agent.{Agent}
-use Rattle.brace_model.specs.World.{RisesById}
 use Rattle.brace_model.specs.Query.{Saying}
 use Rattle.brace_fold.specs.declared.order.Moved.{Moved}
 use Rattle.brace_fold.specs.declared.renewal.Renewed.{Renewed}
@@ -28,17 +27,17 @@ mine s p tick = own s tick p (on s tick).agents
 abbrev pub all_near : Setting → ℕ → ℕ → List Agent
 all_near s p tick = near s tick p (on s tick).agents
 
--- a part holds what it sees of a tick: its own agents, and the others by rising id
+-- a part holds what it sees of a tick: its own agents, and the others
 pub record IsHeld (s : Setting) (p tick : ℕ) (own guests : List Agent) : Type 0 where
   pub own_is : own ≡ mine s p tick
-  pub rises : RisesById guests
   pub moved : IsPermutation (own ++ guests) (all_near s p tick)
 
 -- the same in columns, in some order
 abbrev pub AreHeld : Setting → ℕ → ℕ → Moved → Type 0
 AreHeld s p tick rows = AreStored s.job.program (all_near s p tick) rows
 
--- these agents of a part's own and these guests stand in columns, each at its place
+-- these agents of a part's own and these guests stand in columns, each at its place, the guests by
+-- rising id
 pub record AreStanding (program : Program) (own guests : List Agent) (held : Held) : Type 0 where
   pub all : List Agent
   pub theirs : List Agent
@@ -46,7 +45,7 @@ pub record AreStanding (program : Program) (own guests : List Agent) (held : Hel
   pub listed : AreListed program all held.rows
   pub same : IsPermutation own theirs
   pub own_stand : ArePlaces all theirs held.own.items
-  pub guests_stand : ArePlaces all guests held.places.items
+  pub guests_stand : ArePlaces all (by_id guests) held.places.items
 
 -- and these were told what the queries say that the part evaluates, none of which faults
 pub record IsSummed (s : Setting) (tick : ℕ) (own guests : List Agent) (held : Held) : Type 0 where

@@ -3,6 +3,7 @@ use Rattle.std.specs.List.{list_all}
 use Rattle.std.proofs.lemmas.List.Sorted.{IsPermutation-refl}
 use Rattle.brace_model.specs.declared.fault.Fault.{Fault}
 use Rattle.brace_model.specs.declared.program.Program.{Program}
+use Rattle.brace_model.specs.declared.world.Agent.{Agent}
 use Rattle.brace_model.specs.Lawful.{is_lawful_agent}
 use Rattle.brace_model.specs.Query.{Saying}
 use Rattle.brace_eval.specs.Heard.{IsHeard, faults_by, said_by}
@@ -21,43 +22,38 @@ ask_agents-requires-clause-lawful c =
     subst (λ (p : Program). list_all (is_lawful_agent p) c.args.agents.now ≡ true)
     (sym c.program-program.ensures) c.requires.lawful
 
-pub returns-clause-heard : goal.returns-clause-heard
-returns-clause-heard c = on_ok c.join_all.result _ _ (λ joins d said faults is.
+pub returns : goal.returns
+returns c =
     let agents = c.args.agents.now in
     let program = c.args.plans.now in
     let seed = c.args.seed in
     let tick = c.args.tick in
     let asking = c.args.asking.now in
     let told = c.ask_agents.new.said in
-    let asks = subst (λ (p : Program). AsksIn p seed tick agents d asking c.in_ok-said.said told)
-    c.program-program.ensures (c.in_ok-ask_agents.ensures d) in
     let world = by_id_is agents agents c.requires.rises (IsPermutation-refl agents) in
-    let none = c.in_ok-said.ensures program agents (search rules) in
-    let asked = agents_at agents d asking in
-    let more : List Saying = said_by program seed tick agents asked in
-    let summed = subst (λ w. AreSummed program agents (said_by program seed tick w asked) told) world
-    (asks-said program seed tick agents d asking c.in_ok-said.said told asks [] none) in
-    let joined = subst (λ (p : Program). AreSummed p agents more told
-    → IsHeard p agents said faults c.args.heard.now
-    → IsHeard p agents (said ++ flat_map (said_of p more) agents) faults c.join_all.new.heard)
-    c.program-program.ensures (joins more said faults) summed is in
-    let all = heard-joined program agents more said faults c.join_all.new.heard
-    c.requires.rises joined in
-    let quiet = subst (λ w. faults_by program seed tick w asked ≡ []) world
-    (asks-quiet program seed tick agents d asking c.in_ok-said.said told asks) in
-    subst (λ (l : List Fault). IsHeard program agents (said ++ more) l c.join_all.new.heard)
-    (sym (ap (λ l. faults ++ l) quiet ∙ append-nil faults)) all) c.join_all.ensures
-
-pub returns-clause-quiet : goal.returns-clause-quiet
-returns-clause-quiet c = on_ok c.join_all.result _ _ (λ joins d.
-    let agents = c.args.agents.now in
-    let program = c.args.plans.now in
-    let seed = c.args.seed in
-    let tick = c.args.tick in
-    let asking = c.args.asking.now in
-    let told = c.ask_agents.new.said in
-    let asks = subst (λ (p : Program). AsksIn p seed tick agents d asking c.in_ok-said.said told)
-    c.program-program.ensures (c.in_ok-ask_agents.ensures d) in
-    let world = by_id_is agents agents c.requires.rises (IsPermutation-refl agents) in
-    subst (λ w. faults_by program seed tick w (agents_at agents d asking) ≡ []) world
-    (asks-quiet program seed tick agents d asking c.in_ok-said.said told asks)) c.join_all.ensures
+    let asks = λ (d : Agent). subst (λ (p : Program). AsksIn p seed tick agents d asking
+    c.in_ok-said.said told) c.program-program.ensures (c.in_ok-ask_agents.ensures d) in
+    record {
+      heard = on_ok c.join_all.result _ _ (λ joins d said faults is.
+          let none = c.in_ok-said.ensures program agents (search rules) in
+          let asked = agents_at agents d asking in
+          let more : List Saying = said_by program seed tick agents asked in
+          let summed =
+          subst (λ w. AreSummed program agents (said_by program seed tick w asked) told) world
+          (asks-said program seed tick agents d asking c.in_ok-said.said told (asks d) [] none) in
+          let joined = subst (λ (p : Program). AreSummed p agents more told
+          → IsHeard p agents said faults c.args.heard.now
+          → IsHeard p agents (said ++ flat_map (said_of p more) agents) faults
+          c.join_all.new.heard) c.program-program.ensures (joins more said faults) summed is in
+          let all = heard-joined program agents more said faults c.join_all.new.heard
+          c.requires.rises joined in
+          let quiet = subst (λ w. faults_by program seed tick w asked ≡ []) world
+          (asks-quiet program seed tick agents d asking c.in_ok-said.said told (asks d)) in
+          subst (λ (l : List Fault). IsHeard program agents (said ++ more) l
+          c.join_all.new.heard) (sym (ap (λ l. faults ++ l) quiet ∙ append-nil faults)) all)
+          c.join_all.ensures;
+      quiet = on_ok c.join_all.result _ _ (λ joins d.
+          subst (λ w. faults_by program seed tick w (agents_at agents d asking) ≡ []) world
+          (asks-quiet program seed tick agents d asking c.in_ok-said.said told (asks d)))
+          c.join_all.ensures;
+    }

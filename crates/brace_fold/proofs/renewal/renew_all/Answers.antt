@@ -16,8 +16,8 @@ loop-left-preserved c =
       wide = c.in_ok-renew_some.ensures.wide ∙ c.loop-left.invariant.wide;
       leaves = λ end h.
           c.loop-left.invariant.leaves end
-          (rows-on c.args.ground.now c.args.columns.now group.rows.now group.rest.now
-          c.loop-left.left.now c.loop-left.renewed c.renew_some.new.renewed end
+          (rows-on c.args.ground.now c.args.said.now c.args.columns.now group.rows.now
+          group.rest.now c.loop-left.left.now c.loop-left.renewed c.renew_some.new.renewed end
           c.in_ok-group.ensures.rows c.in_ok-renew_some.ensures.leaves h);
     }
 
@@ -27,7 +27,7 @@ returns-clause-leaves c =
     let empty : length left ≡ 0 = search rules in
     let none : left ≡ [] = none_long left empty in
     c.loop-left.invariant.leaves c.loop-left.renewed (rows-none c.args.ground.now
-    c.args.columns.now left c.loop-left.renewed none)
+    c.args.said.now c.args.columns.now left c.loop-left.renewed none)
 
 pub returns-clause-wide : goal.returns-clause-wide
 returns-clause-wide c = c.loop-left.invariant.wide

@@ -6,8 +6,8 @@ use Rattle.brace_fold.proofs.renewal.renew_all.Given as goal
 abbrev pub invariant-loop-left : goal.invariant-loop-left
 invariant-loop-left l = record {
   wide : length l.renewed.left.states.items ≡ length l.fn.renewed.left.states.items;
-  leaves : (end : Renewed) → LeavesRows l.ground l.columns l.left l.renewed end
-      → LeavesRows l.ground l.columns l.rows l.fn.renewed end;
+  leaves : (end : Renewed) → LeavesRows l.ground l.said l.columns l.left l.renewed end
+      → LeavesRows l.ground l.said l.columns l.rows l.fn.renewed end;
 }
 
 abbrev pub decreases-loop-left : goal.decreases-loop-left

@@ -6,7 +6,7 @@ use Rattle.brace_model.specs.declared.world.Parent.{Parent}
 use Rattle.std.proofs.lemmas.List.Sorted.{length_permutation, sum_by-IsPermutation}
 use Rattle.brace_model.specs.Step.{count_values}
 use Rattle.brace_fold.proofs.RowLemmas.{lawful_moved}
-use Rattle.brace_part.proofs.CensusRows.{count_in, counted_rows}
+use Rattle.brace_pieces.proofs.CensusRows.{count_in, counted_rows}
 use Rattle.brace_part.proofs.census.census_of.Goals as goal
 
 pub returns : goal.returns

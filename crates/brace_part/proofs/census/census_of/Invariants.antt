@@ -1,5 +1,5 @@
 use Rattle.std.proofs.Common.{◌≡◌, map, take}
-use Rattle.brace_part.proofs.CensusRows.{count_in}
+use Rattle.brace_pieces.proofs.CensusRows.{count_in}
 use Rattle.brace_part.proofs.census.census_of.Given as goal
 
 abbrev pub invariant-loop-child : goal.invariant-loop-child

@@ -1,5 +1,4 @@
 use Rattle.std.proofs.Common.{◌++◌, List, flat_map, rules}
-use Rattle.std.proofs.lemmas.List.Sorted.{IsNonDecreasingBy-from_sort_by_key, IsPermutation-trans}
 use Rattle.brace_model.specs.declared.world.Agent.{Agent}
 use Rattle.brace_part.specs.inner.Pieces.{brought}
 use Rattle.brace_part.proofs.TableGather.{gathers_all, taken}
@@ -13,11 +12,8 @@ loop-piece-preserved-in-Some-list_in c =
       search rules,
     )
 
-pub returns-clause-sorted : goal.returns-clause-sorted
-returns-clause-sorted c =
+pub returns-clause-same : goal.returns-clause-same
+returns-clause-same c =
     let start : List Agent = c.args.agents.items ++ flat_map brought c.args.pieces.now.items in
-    record {
-      same = IsPermutation-trans start c.loop-piece.agents.items c.sort_by_key.new.self.items
-          (gathers_all start c.loop-piece.agents.items c.loop-piece.pieces.items (search rules) c.loop-piece.invariant.0) c.in_ok-sort_by_key.ensures.permutation;
-      in_order = IsNonDecreasingBy-from_sort_by_key (λ (a : Agent). a.id) c.sort_by_key.new.self.items c.in_ok-sort_by_key.ensures.sorted (λ a r q k. search rules);
-    }
+    gathers_all start c.loop-piece.agents.items c.loop-piece.pieces.items (search rules)
+    c.loop-piece.invariant.0

@@ -1,13 +1,15 @@
-use Rattle.std.proofs.Common.{◌≡◌, ◌∙◌, sym, ap, subst, filter, List, Some, map, slice_get, w64}
+use Rattle.std.proofs.Common.{◌≡◌, ◌∙◌, sym, ap, subst, filter, List, Some, get_or, map, slice_get, w64}
 use Rattle.std.specs.List.Sorted.{IsPermutation}
 use Rattle.std.proofs.lemmas.Int.{to_z-of_z}
-use Rattle.std.proofs.lemmas.List.Sorted.{All-permutation, IsPermutation-sym, IsPermutation-trans}
+use Rattle.std.proofs.lemmas.List.Sorted.{All-permutation, IsPermutation-map, IsPermutation-sym, IsPermutation-trans}
 use Rattle.brace_num.proofs.Orders.{filter_rises, one_sorted}
 use Rattle.brace_model.specs.declared.world.Agent.{Agent}
+use Rattle.brace_fold.specs.Asked.{by_row, no_agent}
+use Rattle.brace_fold.proofs.Ownings.{picked-row}
 use Rattle.brace_invert.specs.Held.{is_near}
 use Rattle.brace_part.specs.inner.Near.{AreNear, StandsFit}
 use Rattle.brace_part.proofs.AskedLemmas.{filter_moved}
-use Rattle.brace_part.proofs.NearLemmas.{one_list}
+use Rattle.brace_part.proofs.NearLemmas.{rows_rise}
 use Rattle.brace_part.proofs.near.agents_near.Goals as goal
 
 pub returns-clause-near : goal.returns-clause-near
@@ -21,15 +23,20 @@ returns-clause-near c agents stored =
     let found = subst (λ (l : List Agent). map
     (slice_get l) c.deref.result.now ≡ map Some c.in-Ok-agents_at.near.items)
     stored.listed.are c.in-Ok-agents_at.ensures in
-    let is : c.in-Ok-agents_at.near.items ≡ filter test those =
-    one_list c.in-Ok-agents_at.near.items _
-    (sym found ∙ ap (map (slice_get those)) c.deref.ensures.value ∙ near.are) in
-    let sorted = c.in_ok-near.ensures in
-    let moved = IsPermutation-trans (filter test agents) (filter test those) c.in_ok-near.near.items
-    (filter_moved test agents those stored.same)
-    (subst (λ l. IsPermutation l c.in_ok-near.near.items) is sorted.same) in
-    c.from_vec.ensures
-    ∙ one_sorted id c.in_ok-near.near.items (filter test agents) moved sorted.in_order
+    let rows = c.in-Ok-rows_by_id.sorted.items in
+    let is : by_row those rows ≡ c.in-Ok-agents_at.near.items =
+    picked-row those c.in-Ok-agents_at.near.items rows
+    (ap (map (slice_get those)) (sym c.deref.ensures.value) ∙ found) in
+    let sorted = c.in-Ok-rows_by_id.ensures in
+    let here = subst (λ l. IsPermutation l (by_row those rows))
+    (picked-row those (filter test those) c.in-Ok.places.items near.are)
+    (IsPermutation-map (λ row. get_or those row no_agent) c.in-Ok.places.items rows sorted.same) in
+    let moved = IsPermutation-trans (filter test agents) (filter test those) (by_row those rows)
+    (filter_moved test agents those stored.same) here in
+    let rise = rows_rise those c.as_slice.result.now rows
+    (c.as_slice.ensures.value ∙ stored.listed.moved.ids_are) sorted.in_order in
+    c.from_vec.ensures ∙ sym is
+    ∙ one_sorted id (by_row those rows) (filter test agents) moved rise
     (filter_rises id test agents stored.rises)
 
 pub returns-clause-fit : goal.returns-clause-fit

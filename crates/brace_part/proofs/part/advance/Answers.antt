@@ -11,7 +11,7 @@ use Rattle.brace_pieces.specs.Courses.{step_of}
 use Rattle.brace_part.specs.Parts.{found_in_work, brings_at}
 use Rattle.brace_part.specs.inner.Ready.{IsReadyBehind, AreKept}
 use Rattle.brace_part.specs.inner.Sound.{ComesTo}
-use Rattle.brace_part.proofs.StepLemmas.{of_run}
+use Rattle.brace_pieces.proofs.StepLemmas.{of_run}
 use Rattle.brace_part.proofs.ShownLemmas.{is_noted}
 use Rattle.brace_part.proofs.ComesLemmas.{note_of, comes_next, kept_there}
 use Rattle.brace_part.proofs.part.advance.Goals as goal

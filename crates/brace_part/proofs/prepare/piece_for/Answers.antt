@@ -4,6 +4,7 @@ use Rattle.std.proofs.lemmas.List.Elements.{All-head}
 use Rattle.brace_num.specs.declared.kinds.Area.{Area}
 use Rattle.brace_cuts.specs.Space.{LawfulCuts, area_of}
 use Rattle.brace_cuts.specs.declared.space.Cuts.{Cuts}
+use Rattle.brace_fold.specs.Rows.{by_id}
 use Rattle.brace_invert.specs.Held.{is_near}
 use Rattle.brace_pieces.specs.declared.piece.Piece.TheVariants as piece
 use Rattle.brace_pieces.specs.declared.setting.Stage.TheVariants as stage
@@ -18,7 +19,7 @@ use Rattle.brace_part.specs.Parts.{own_before}
 use Rattle.brace_part.specs.inner.Holding.{mine}
 use Rattle.brace_part.specs.inner.Ready.{IsReadyFor, left_in}
 use Rattle.brace_part.specs.inner.Tables.{shares_in}
-use Rattle.brace_part.proofs.StepLemmas.{of_run}
+use Rattle.brace_pieces.proofs.StepLemmas.{of_run}
 use Rattle.brace_part.proofs.OutLemmas.{met_is_part, right_in}
 use Rattle.brace_part.proofs.PieceLemmas.{met_other, moved_right, sums_right, told_right}
 use Rattle.brace_part.proofs.HoldWork.{held_of, mine_lawful}
@@ -189,10 +190,15 @@ returns-in_ok-entries-in-Effects-Hears c =
 
 pub told_sums-requires : goal.told_sums-requires
 told_sums-requires c =
-    let s = c.args.worker.now.setting.now in
+    let w = c.args.worker.now in
+    let s = w.setting.now in
+    let is_part = met_is_part s c.args.at w.part c.args.to c.requires.next.shows_nothing
+    (All-head (λ q. Contains (met s c.args.at w.part) q) c.args.to [] c.requires.to) in
     record {
       cuts = subst LawfulCuts (sym c.cuts_at-cuts.ensures)
           (cuts_lawful s.epoch s.cuts c.args.at.tick c.requires.worker.lawful.plan_is_lawful);
+      part = part_as _ _ s.job.first _ _ _ c.cuts_at-cuts.ensures
+          c.requires.worker.lawful.plan_is_lawful is_part;
     }
 
 pub returns-in_ok-entries-in-Effects-Holds : goal.returns-in_ok-entries-in-Effects-Holds
@@ -219,8 +225,9 @@ returns-in_ok-entries-in-Effects-Holds c =
           ready.1
           (held_of w c.requires.worker t (mine s w.part t) held.guests.items ready.1.holds.holds
           c.args.to other)
-          (λ all said stand h. c.in_ok-entries-in-Effects-Holds.ensures.told all said stand h
-          ∙ ap (λ cuts. shares_in s.job.program cuts c.args.to held.guests.items said)
+          (λ all said moved stand h.
+          c.in_ok-entries-in-Effects-Holds.ensures.told all said moved stand h
+          ∙ ap (λ cuts. shares_in s.job.program cuts c.args.to (by_id held.guests.items) said)
           c.cuts_at-cuts.ensures)));
       goes_on = tt;
     }

@@ -1,5 +1,8 @@
-use Rattle.std.proofs.Common.{◌≡◌, ◌++◌, [], sym, subst}
+use Rattle.std.proofs.Common.{◌≡◌, ◌++◌, [], ℕ, List, sym, subst}
 use Rattle.brace_model.specs.declared.program.Program.{Program}
+use Rattle.brace_model.specs.declared.world.Agent.{Agent}
+use Rattle.brace_fold.specs.declared.arranged.Arranged.{Arranged}
+use Rattle.brace_fold.specs.declared.table.Table.{Table}
 use Rattle.brace_fold.specs.Arranged.{AreArranged, in_places}
 use Rattle.brace_fold.specs.Asked.{by_row, no_agent}
 use Rattle.brace_fold.specs.Sums.{AreSummed}
@@ -19,37 +22,37 @@ ask_in-requires-clause-agents c =
           is,
     )
 
+-- they ask by the program of the plans
+asks_there : (program made : Program) (seed tick : ℕ) (agents : List Agent) (all : Arranged)
+    (asking : List ℕ) (said after : Table) → made ≡ program → AreArranged program agents all
+    → ((l : List Agent) (d : Agent) → AreArranged made l all
+    → AsksIn made seed tick (in_places l all) d asking said after)
+    → AsksIn program seed tick (in_places agents all) no_agent asking said after
+asks_there program made seed tick agents all asking said after same is asks =
+    subst (λ (p : Program). AsksIn p seed tick (in_places agents all) no_agent asking said after)
+    same (asks agents no_agent (subst (λ (p : Program). AreArranged p agents all) (sym same) is))
+
 pub returns-clause-said : goal.returns-clause-said
 returns-clause-said c = on_ok c.ask_in.result _ _ (λ h agents before is summed.
     let program = c.args.plans.now in
-    let all = c.args.self.now in
-    let seed = c.args.seed in
-    let tick = c.args.tick in
-    let asking = c.args.asking.now in
-    let those = in_places agents all in
-    let these = subst (λ (p : Program). AreArranged p agents all) (sym c.program-program.ensures)
-    is in
-    let asks = subst (λ (p : Program). AsksIn p seed tick those no_agent asking c.args.said.now
-    c.ask_in.new.said) c.program-program.ensures (h agents no_agent these) in
-    let world = by_id_moved agents those is.apart (in-order program agents all is) in
+    let those = in_places agents c.args.self.now in
+    let asks = asks_there program c.program-program.result.now c.args.seed c.args.tick agents
+    c.args.self.now c.args.asking.now c.args.said.now c.ask_in.new.said c.program-program.ensures
+    is h in
     subst (λ w. AreSummed program those
-    (before ++ said_by program seed tick w (by_row those asking)) c.ask_in.new.said) world
-    (asks-said program seed tick those no_agent asking c.args.said.now c.ask_in.new.said asks before
-    summed)) c.ask_in.ensures
+    (before ++ said_by program c.args.seed c.args.tick w (by_row those c.args.asking.now))
+    c.ask_in.new.said)
+    (by_id_moved agents those is.apart (in-order program agents c.args.self.now is))
+    (asks-said program c.args.seed c.args.tick those no_agent c.args.asking.now c.args.said.now
+    c.ask_in.new.said asks before summed)) c.ask_in.ensures
 
 pub returns-clause-quiet : goal.returns-clause-quiet
 returns-clause-quiet c = on_ok c.ask_in.result _ _ (λ h agents is.
     let program = c.args.plans.now in
-    let all = c.args.self.now in
-    let seed = c.args.seed in
-    let tick = c.args.tick in
-    let asking = c.args.asking.now in
-    let those = in_places agents all in
-    let these = subst (λ (p : Program). AreArranged p agents all) (sym c.program-program.ensures)
-    is in
-    let asks = subst (λ (p : Program). AsksIn p seed tick those no_agent asking c.args.said.now
-    c.ask_in.new.said) c.program-program.ensures (h agents no_agent these) in
-    let world = by_id_moved agents those is.apart (in-order program agents all is) in
-    subst (λ w. faults_by program seed tick w (by_row those asking) ≡ []) world
-    (asks-quiet program seed tick those no_agent asking c.args.said.now c.ask_in.new.said asks))
-    c.ask_in.ensures
+    let those = in_places agents c.args.self.now in
+    subst (λ w. faults_by program c.args.seed c.args.tick w (by_row those c.args.asking.now) ≡ [])
+    (by_id_moved agents those is.apart (in-order program agents c.args.self.now is))
+    (asks-quiet program c.args.seed c.args.tick those no_agent c.args.asking.now c.args.said.now
+    c.ask_in.new.said (asks_there program c.program-program.result.now c.args.seed c.args.tick
+    agents c.args.self.now c.args.asking.now c.args.said.now c.ask_in.new.said
+    c.program-program.ensures is h))) c.ask_in.ensures

@@ -26,56 +26,44 @@ loop-next-init c = record {
 }
 
 pub loop-next-preserved : goal.loop-next-preserved
-loop-next-preserved c = record {
-  from = omega (arith, c.loop-next.invariant.from);
-  within = search rules;
-  led = c.in_ok-count.ensures.led;
-  full = c.in_ok-enter.ensures.full;
-  of = λ scopes stands.
-      let scene = c.args.self.now in
-      let depth = c.args.crowd.now.depth in
-      let lanes : Entered = c.loop-next.lanes in
-      let near = c.find.new.near.items in
-      let count = c.in_ok-count.count in
-      let finds = c.in_ok-count.ensures.finds in
-      let low = c.loop-next.invariant.full.near in
-      let front =
-      appended_front lanes.count count lanes.near.items near finds.found low finds.appended in
-      let behind =
-      appended_behind lanes.count count lanes.near.items near finds.found low finds.appended in
-      enters-more c.args.self.now c.args.crowd.now scopes c.args.class c.args.bounds.now c.args.from
-      c.loop-next.next c.in_ok-lane.lane
-      _ _ finds.found _ stands c.loop-next.invariant.from
-      c.in_ok-lane.ensures
-      (λ s is. finds.near s is
-      ∙ ap₂ (λ k l. map (λ b. Some b) (near_by scene.program.now (rows scene) s k l))
-      c.sought-sought.ensures.class c.sought-sought.ensures.bounds)
-      behind
-      (c.in_ok-enter.ensures.lanes
-      ∙ ap (λ l. l ++ map (entered depth c.in_ok-lane.lane) (between lanes.count count near))
-      (kept_inside lanes (record lanes { near = c.find.new.near })
-      (same_front lanes.near.items near lanes.count front) depth))
-      (c.loop-next.invariant.of scopes stands);
-  stretches =
-      let depth = c.args.crowd.now.depth in
-      let lanes : Entered = c.loop-next.lanes in
-      let near = c.find.new.near.items in
-      let count = c.in_ok-count.count in
-      let finds = c.in_ok-count.ensures.finds in
-      let low = c.loop-next.invariant.full.near in
-      let many =
-      appended_count lanes.count count lanes.near.items near finds.found low finds.appended in
-      let front =
-      appended_front lanes.count count lanes.near.items near finds.found low finds.appended in
-      stretches-more depth c.in_ok-lane.lane (lanes_inside depth lanes) _
-      (between lanes.count count near) _ c.loop-next.stretches.items c.stretch.new.stretches.items
-      c.loop-next.invariant.stretches c.in_ok-stretch.ensures
-      (reached near lanes.count count (omega (arith, many)) finds.appended.within)
-      (c.in_ok-enter.ensures.lanes
-      ∙ ap (λ l. l ++ map (entered depth c.in_ok-lane.lane) (between lanes.count count near))
-      (kept_inside lanes (record lanes { near = c.find.new.near })
-      (same_front lanes.near.items near lanes.count front) depth));
-}
+loop-next-preserved c =
+    let scene = c.args.self.now in
+    let depth = c.args.crowd.now.depth in
+    let lanes : Entered = c.loop-next.lanes in
+    let near = c.find.new.near.items in
+    let count = c.in_ok-count.count in
+    let finds = c.in_ok-count.ensures.finds in
+    let low = c.loop-next.invariant.full.near in
+    let front =
+    appended_front lanes.count count lanes.near.items near finds.found low finds.appended in
+    let inside = c.in_ok-enter.ensures.lanes
+    ∙ ap (λ l. l ++ map (entered depth c.in_ok-lane.lane) (between lanes.count count near))
+    (kept_inside lanes (record lanes { near = c.find.new.near })
+    (same_front lanes.near.items near lanes.count front) depth) in
+    record {
+      from = omega (arith, c.loop-next.invariant.from);
+      within = search rules;
+      led = c.in_ok-count.ensures.led;
+      full = c.in_ok-enter.ensures.full;
+      of = λ scopes stands.
+          let behind =
+          appended_behind lanes.count count lanes.near.items near finds.found low finds.appended in
+          enters-more scene c.args.crowd.now scopes c.args.class c.args.bounds.now c.args.from
+          c.loop-next.next c.in_ok-lane.lane
+          _ _ finds.found _ stands c.loop-next.invariant.from
+          c.in_ok-lane.ensures
+          (λ s is. finds.near s is
+          ∙ ap₂ (λ k l. map (λ b. Some b) (near_by scene.program.now (rows scene) s k l))
+          c.sought-sought.ensures.class c.sought-sought.ensures.bounds)
+          behind inside (c.loop-next.invariant.of scopes stands);
+      stretches =
+          let many =
+          appended_count lanes.count count lanes.near.items near finds.found low finds.appended in
+          stretches-more depth c.in_ok-lane.lane (lanes_inside depth lanes) _
+          (between lanes.count count near) _ c.loop-next.stretches.items
+          c.stretch.new.stretches.items c.loop-next.invariant.stretches c.in_ok-stretch.ensures
+          (reached near lanes.count count (omega (arith, many)) finds.appended.within) inside;
+    }
 
 pub enter-requires-clause-full : goal.enter-requires-clause-full
 enter-requires-clause-full c =

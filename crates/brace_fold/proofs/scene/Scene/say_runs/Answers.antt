@@ -13,7 +13,7 @@ use Rattle.brace_fold.proofs.scene.Scene.say_runs.Goals as goal
 
 pub loop-at-init : goal.loop-at-init
 loop-at-init g c = record {
-  sums = c.requires.sums;
+  sums = c.requires.listens.sums;
   within = omega arith;
   said = λ who scopes told long.
       hears-none c.args.self.now.program.now (rows c.args.self.now) c.args.heard.now;

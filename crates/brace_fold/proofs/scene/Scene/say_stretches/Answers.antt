@@ -14,7 +14,7 @@ use Rattle.brace_fold.proofs.scene.Scene.say_stretches.Goals as goal
 
 pub loop-stretch-init : goal.loop-stretch-init
 loop-stretch-init g c = record {
-  sums = c.requires.sums;
+  sums = c.requires.listens.sums;
   at = refl;
   said = λ who scopes told long.
       hears-none c.args.self.now.program.now (rows c.args.self.now) c.args.heard.now;

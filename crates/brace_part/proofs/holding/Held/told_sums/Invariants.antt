@@ -1,6 +1,7 @@
 use Rattle.std.proofs.Common.{◌≡◌, List, map, take}
 use Rattle.brace_model.specs.declared.world.Agent.{Agent}
 use Rattle.brace_model.specs.Query.{Saying}
+use Rattle.brace_fold.specs.Rows.{AreMoved, by_id}
 use Rattle.brace_fold.specs.Sums.{AreSummed}
 use Rattle.brace_pieces.specs.Right.{share_of}
 use Rattle.brace_part.specs.inner.Asked.{ArePlaces}
@@ -8,7 +9,8 @@ use Rattle.brace_part.specs.inner.Tables.{shares_in}
 use Rattle.brace_part.proofs.holding.Held.told_sums.Given as goal
 
 abbrev pub invariant-loop-k : goal.invariant-loop-k
-invariant-loop-k l = (all : List Agent) (said : List Saying)
-    → ArePlaces all l.self.guests.items l.self.places.items
+invariant-loop-k l = (all : List Agent) (said : List Saying) → AreMoved all l.self.rows
+    → ArePlaces all (by_id l.self.guests.items) l.self.places.items
     → AreSummed l.program all said l.self.said
-    → map share_of l.entries ≡ shares_in l.program l.cuts l.to (take l.k l.self.guests.items) said
+    → map share_of l.entries
+    ≡ shares_in l.program l.cuts l.to (take l.k (by_id l.self.guests.items)) said

@@ -8,10 +8,11 @@ use Rattle.brace_pieces.specs.Courses.{OnCourse, past_of}
 use Rattle.brace_part.specs.declared.standing.Standing.{Standing}
 use Rattle.brace_part.specs.Parts.{OnPart, IsCauseOfAll}
 use Rattle.brace_part.specs.inner.Sound.{IsSound}
-use Rattle.brace_part.proofs.TurnLemmas.{some_take, take_due}
+use Rattle.brace_pieces.proofs.TurnLemmas.{some_take, take_due}
 use Rattle.brace_part.proofs.SoundLemmas.{sound_within, take_goes, has_place}
 use Rattle.brace_part.proofs.CauseLemmas.{found_more}
-use Rattle.brace_part.proofs.GoneLemmas.{took_next, take_halt, cause_none, no_cause, goes_unless}
+use Rattle.brace_part.proofs.GoneLemmas.{took_next, take_halt, no_cause, goes_unless}
+use Rattle.brace_num.proofs.Options.{not_some}
 use Rattle.brace_part.proofs.part.PartActorPiece.give.Goals as goal
 
 pub go_on-requires : goal.go_on-requires
@@ -42,14 +43,14 @@ invariant_of-self-in-Halt c =
     subst (λ (d : OnCourse). IsSound d i.queries i.standing (Some c.in-Halt.cause) room) (sym c.go_on.ensures.place)
     (sound_within cs i.queries i.standing i.standing i.cause (Some c.in-Halt.cause) room room c.self.invariant (omega (arith, low, high))
     (λ none. absurd (no_cause (Some c.in-Halt.cause) refl none)) (take_halt cs took.0 c.in-Halt.cause took.1.0 (subst (IsRight cs.setting took.0) c.in-Halt.is took.1.1))
-    (found_more cs.setting cs.actor cs.number (Some c.in-Halt.cause) (subst (IsCauseOfAll cs.setting cs.actor cs.number) (cause_none i.cause (sym c.is_some.ensures ∙ c.if-is_some.false)) c.self.invariant.found)) refl refl)
+    (found_more cs.setting cs.actor cs.number (Some c.in-Halt.cause) (subst (IsCauseOfAll cs.setting cs.actor cs.number) (not_some i.cause (sym c.is_some.ensures ∙ c.if-is_some.false)) c.self.invariant.found)) refl refl)
 
 pub push_reserved-requires : goal.push_reserved-requires
 push_reserved-requires c =
     let i = c.self.inside in
     let take = subst (λ (v : OnPart). IsTake (turn_at (schedule v.course.setting) v.course.actor (past_of v.course))) (sym c.self.view_is) c.requires.turn in
     let next = some_take i.course c.self.invariant.course take in
-    let none = cause_none i.cause (sym c.is_some.ensures ∙ c.if-is_some.false) in
+    let none = not_some i.cause (sym c.is_some.ensures ∙ c.if-is_some.false) in
     let place = has_place i.course i.standing next.0 (vec_capacity i.standing.taken) c.self.invariant.is_part.is_part (c.self.invariant.goes_on none) next.1 c.self.invariant.has_room in
     search (rules, place)
 

@@ -13,7 +13,7 @@ use Rattle.brace_part.specs.declared.standing.Standing.{Standing}
 use Rattle.brace_part.specs.Parts.{OnPart}
 use Rattle.brace_part.specs.inner.Pieces.{GoesOn}
 use Rattle.brace_part.specs.inner.Sound.{IsHalted, IsSound}
-use Rattle.brace_part.proofs.TurnLemmas.{put_due, put_named, some_put}
+use Rattle.brace_pieces.proofs.TurnLemmas.{put_due, put_named, some_put}
 use Rattle.brace_part.proofs.SoundLemmas.{sound_within, put_goes}
 use Rattle.brace_part.proofs.GoneLemmas.{puts_some, put_halt, no_cause}
 use Rattle.brace_part.proofs.part.PartActorPiece.piece.Goals as goal

@@ -7,9 +7,10 @@ use Rattle.brace_pieces.specs.Steps.{schedule}
 use Rattle.brace_pieces.specs.Courses.{past_of}
 use Rattle.brace_part.specs.Parts.{OnPart, IsCauseOf, IsCauseOfAll, found_in_work}
 use Rattle.brace_part.specs.inner.Ready.{AreKept}
-use Rattle.brace_part.proofs.TurnLemmas.{work_due, work_named}
+use Rattle.brace_pieces.proofs.TurnLemmas.{work_due, work_named}
 use Rattle.brace_part.proofs.CauseLemmas.{cause_told, found_passed, found_halted, found_faulted}
-use Rattle.brace_part.proofs.GoneLemmas.{number_on, none_made, work_on, sound_on, halted_on, cause_none, no_cause}
+use Rattle.brace_part.proofs.GoneLemmas.{number_on, none_made, work_on, sound_on, halted_on, no_cause}
+use Rattle.brace_num.proofs.Options.{not_some}
 use Rattle.brace_part.proofs.part.PartActorPiece.work.Goals as goal
 
 pub go_on-requires : goal.go_on-requires
@@ -42,7 +43,7 @@ pub advance-worked-requires-clause-work : goal.advance-worked-requires-clause-wo
 advance-worked-requires-clause-work c =
     let i = c.self.inside in
     let due = subst (λ (v : OnPart). turn_at (schedule v.course.setting) v.course.actor (past_of v.course) ≡ turn.Work) (sym c.self.view_is) c.requires.turn in
-    let none = cause_none i.cause (sym c.is_some.ensures ∙ c.if-is_some.false) in
+    let none = not_some i.cause (sym c.is_some.ensures ∙ c.if-is_some.false) in
     work_on i.course c.go_on.new.self c.go_on.ensures.place (work_named i.course c.self.invariant.course due) c.number-number.result c.in-Some.at i.standing c.number-number.ensures
     (sym c.step-at.ensures ∙ c.in-Some.is) (c.self.invariant.goes_on none)
 
@@ -63,7 +64,7 @@ invariant_of-self-in-Err c =
     let right = cause_told i.course.setting c.self.invariant.is_part.lawful i.course.actor i.course.number at stands c.in-Err.cause faulted in
     sound_on i.course c.go_on.new.self c.go_on.ensures.place next i.queries i.standing c.advance-worked.new.standing i.cause (Some c.in-Err.cause) (vec_capacity i.standing.taken) (vec_capacity c.advance-worked.new.standing.taken) c.self.invariant
     (λ none. absurd (no_cause (Some c.in-Err.cause) refl none)) right
-    (found_faulted i.course.setting i.course.actor i.course.number at c.in-Err.cause stands faulted (subst (IsCauseOfAll i.course.setting i.course.actor i.course.number) (cause_none i.cause (sym c.is_some.ensures ∙ c.if-is_some.false)) c.self.invariant.found))
+    (found_faulted i.course.setting i.course.actor i.course.number at c.in-Err.cause stands faulted (subst (IsCauseOfAll i.course.setting i.course.actor i.course.number) (not_some i.cause (sym c.is_some.ensures ∙ c.if-is_some.false)) c.self.invariant.found))
     c.advance-worked.ensures.kept c.advance-worked.ensures.places
 
 pub invariant_of-self-in_default-worked : goal.invariant_of-self-in_default-worked

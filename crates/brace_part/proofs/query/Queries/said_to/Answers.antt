@@ -1,14 +1,16 @@
-use Rattle.std.proofs.Common.{◌≡◌, ◌∙◌, [], ℕ, sym, subst, length, get_or, rules}
+use Rattle.std.proofs.Common.{◌≡◌, ◌∙◌, [], ℕ, List, sym, subst, length, get_or, rules}
 use Rattle.std.proofs.lemmas.List.{length-map}
 use Rattle.std.proofs.lemmas.List.Sorted.{IsPermutation-sym}
 use Rattle.brace_model.specs.declared.program.Program.{Program}
+use Rattle.brace_model.specs.declared.world.Agent.{Agent}
 use Rattle.brace_eval.specs.Heard.{said_by}
+use Rattle.brace_fold.specs.declared.arranged.Arranged.{Arranged}
 use Rattle.brace_fold.specs.Arranged.{AreArranged, in_places}
 use Rattle.brace_fold.specs.Asked.{by_row, no_agent}
 use Rattle.brace_fold.specs.Rows.{by_id}
 use Rattle.brace_fold.specs.Sums.{AreSummed}
 use Rattle.brace_fold.proofs.ArrangedLemmas.{arranged-alike}
-use Rattle.brace_invert.specs.Split.{forward_query, inverse_query}
+use Rattle.brace_invert.specs.Split.{forward_program, forward_query, inverse_program, inverse_query}
 use Rattle.brace_part.specs.inner.Sound.{AreQueriesOf}
 use Rattle.brace_part.specs.inner.Tables.{said_over}
 use Rattle.brace_part.proofs.AskLemmas.{sees_same}
@@ -16,6 +18,15 @@ use Rattle.brace_part.proofs.SumsLemmas.{all_rows_ask, quiet_both, quiet_moved, 
 use Rattle.brace_part.proofs.LaneLemmas.{effects_same, own_effects}
 use Rattle.brace_part.proofs.query.Queries.said_to.Goals as goal
 use Rattle.brace_part.proofs.query.Queries.said_to.Goals.{in-Script+in_ok-ask-in-Script, in-Inverted+in_ok-all-in-Inverted+in_ok-ask-in-Inverted+in_ok-ask-in-Inverted-2}
+
+-- agents in their places stand so for both programs that are asked
+both_arranged : (m p q : Program) (agents : List Agent) (arranged : Arranged)
+    → p ≡ forward_program m → q ≡ inverse_program m → AreArranged m agents arranged
+    → AreArranged p agents arranged × AreArranged q agents arranged
+both_arranged m p q agents arranged forward inverse are = (
+  arranged-alike m p agents arranged (sees_same forward_query m p forward) are,
+  arranged-alike m q agents arranged (sees_same inverse_query m q inverse) are,
+)
 
 pub ask-requires-clause-agents : goal.ask-requires-clause-agents
 ask-requires-clause-agents c =
@@ -31,22 +42,18 @@ ask-requires-in-Inverted-clause-agents c =
     let (agents, can) = c.requires.can in
     let s = c.args.setting.now in
     let (inverts, forward, inverse) = subst (AreQueriesOf s) c.in-Inverted.is can.queries in
-    let p = c.in-Inverted.forward in (
-      agents,
-      arranged-alike s.job.program p agents c.args.arranged.now
-          (sees_same forward_query s.job.program p forward) can.arranged_so,
-    )
+    let (one, two) = both_arranged s.job.program c.in-Inverted.forward c.in-Inverted.inverse agents
+    c.args.arranged.now forward inverse can.arranged_so in
+    (agents, one)
 
 pub ask-requires-in-Inverted-2-clause-agents : goal.ask-requires-in-Inverted-2-clause-agents
 ask-requires-in-Inverted-2-clause-agents c =
     let (agents, can) = c.requires.can in
     let s = c.args.setting.now in
     let (inverts, forward, inverse) = subst (AreQueriesOf s) c.in-Inverted.is can.queries in
-    let q = c.in-Inverted.inverse in (
-      agents,
-      arranged-alike s.job.program q agents c.args.arranged.now
-          (sees_same inverse_query s.job.program q inverse) can.arranged_so,
-    )
+    let (one, two) = both_arranged s.job.program c.in-Inverted.forward c.in-Inverted.inverse agents
+    c.args.arranged.now forward inverse can.arranged_so in
+    (agents, two)
 
 pub returns-clause-said : goal.returns-clause-said
 returns-clause-said c agents mine can perm =
@@ -86,10 +93,7 @@ returns-clause-said c agents mine can perm =
           let q = w.in-Inverted.inverse in
           let between = w.ask-in-Inverted.new.said in
           let after = w.ask-in-Inverted-2.new.said in
-          let one = arranged-alike m p agents arranged (sees_same forward_query m p forward)
-          can.arranged_so in
-          let two = arranged-alike m q agents arranged (sees_same inverse_query m q inverse)
-          can.arranged_so in
+          let (one, two) = both_arranged m p q agents arranged forward inverse can.arranged_so in
           let places = w.deref.result.now in
           let all = all_rows_ask m agents arranged places can.arranged_so
           (w.deref.ensures.value ∙ w.in_ok-all-in-Inverted.ensures) in
@@ -132,10 +136,7 @@ returns-clause-quiet c agents mine can perm =
           can.queries in
           let p = w.in-Inverted.forward in
           let q = w.in-Inverted.inverse in
-          let one = arranged-alike m p agents arranged (sees_same forward_query m p forward)
-          can.arranged_so in
-          let two = arranged-alike m q agents arranged (sees_same inverse_query m q inverse)
-          can.arranged_so in
+          let (one, two) = both_arranged m p q agents arranged forward inverse can.arranged_so in
           let places = w.deref.result.now in
           let all = all_rows_ask m agents arranged places can.arranged_so
           (w.deref.ensures.value ∙ w.in_ok-all-in-Inverted.ensures) in

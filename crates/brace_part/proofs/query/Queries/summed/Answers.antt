@@ -18,6 +18,8 @@ use Rattle.brace_part.specs.inner.Asked.{ArePlaces}
 use Rattle.brace_part.specs.inner.Hearing.{CanSay, CanSum}
 use Rattle.brace_part.specs.inner.Tables.{faults_over, said_over}
 use Rattle.brace_part.proofs.CellLemmas.{both_moved, first_moved}
+use Rattle.brace_part.proofs.HoldWork.{apart_behind}
+use Rattle.brace_part.proofs.NearLemmas.{places_rise}
 use Rattle.brace_part.proofs.query.Queries.summed.Goals.{In_ok-expect_wide}
 use Rattle.brace_part.proofs.query.Queries.summed.Goals as goal
 
@@ -89,12 +91,15 @@ returns-clause-summed c can =
     (subst (λ n. IsPicked own order (filter (λ row. nat_lt row n) order)) can.many
     c.in_ok-own.ensures) in
     let many : c.len.result ≡ length guests = search rules in
-    let behind : IsPicked c.in_ok-places.places.items order
-    (range_with_len (length can.those) (length guests)) =
-    subst (λ n. IsPicked c.in_ok-places.places.items order
-    (range_with_len (length can.those) n)) many
-    (subst (λ n. IsPicked c.in_ok-places.places.items order (range_with_len n c.len.result))
-    can.many c.in_ok-places.ensures) in
+    let rest = c.in_ok-rest.rest.items in
+    let behind : IsPicked rest order (range_with_len (length can.those) (length guests)) =
+    subst (λ n. IsPicked rest order (range_with_len (length can.those) n)) many
+    (subst (λ n. IsPicked rest order (range_with_len n c.len.result)) can.many
+    c.in_ok-rest.ensures) in
+    let places : ArePlaces all guests rest = subst (λ l. ArePlaces all l rest)
+    (rows-back can.those guests)
+    (picked-by agents order rest (range_with_len (length can.those) (length guests)) behind) in
+    let sorted = c.in_ok-places.ensures in
     let there = IsPermutation-trans can.own can.those theirs can.same
     (first_moved can.those guests order is.places) in
     let asked : IsPermutation can.own (by_row all c.deref-3.result.now) =
@@ -112,10 +117,9 @@ returns-clause-summed c can =
             (lawful_moved m agents all moved lawful);
         same = there;
         own_stand = stand;
-        guests_stand = subst (λ l. ArePlaces all l c.in_ok-places.places.items)
-            (rows-back can.those guests)
-            (picked-by agents order c.in_ok-places.places.items
-            (range_with_len (length can.those) (length guests)) behind);
+        guests_stand = places_rise all guests c.as_slice.result.now rest
+            c.in_ok-places.places.items places (apart_behind can.own guests can.apart)
+            (c.as_slice.ensures.value ∙ is.moved.ids_are) sorted.same sorted.in_order;
       };
       sums = subst (λ w. AreSummed m all (said_over s tick can.own w) c.in_ok-said.said) world
           (c.in_ok-said.ensures.said agents can.own says asked);

@@ -6,12 +6,11 @@ use Rattle.brace_model.specs.Lawful.{is_lawful_agent}
 use Rattle.brace_pieces.specs.Settings.{cuts_of}
 use Rattle.brace_pieces.specs.Owned.{owned, owns}
 use Rattle.brace_pieces.specs.Continued.{on}
-use Rattle.brace_pieces.specs.Together.{IsSorted}
 use Rattle.brace_part.specs.inner.Pieces.{brought}
 use Rattle.brace_part.specs.inner.Ready.{left_in}
 use Rattle.brace_part.proofs.CellLemmas.{own_rises}
 use Rattle.brace_part.proofs.LawfulOn.{on_lawful, some_pass}
-use Rattle.brace_part.proofs.WorkOwned.{kept_both, next_moved, sorted_behind}
+use Rattle.brace_part.proofs.WorkOwned.{gathered_behind, kept_both, next_moved}
 use Rattle.brace_part.proofs.work.Worker.arrived.Goals as goal
 
 pub returns-clause-owns : goal.returns-clause-owns
@@ -25,8 +24,8 @@ returns-clause-owns c =
     let born = c.args.born.items in
     let taken = flat_map brought c.args.taken.now.items in
     let next = mine (on s (t + 1)).agents in
-    let more = subst (λ (l : List Agent). IsSorted
-    (l ++ taken) c.in_ok-more.more.items) c.kept.ensures c.in_ok-more.ensures.sorted in
+    let more = subst (λ (l : List Agent). IsPermutation
+    (l ++ taken) c.in_ok-more.more.items) c.kept.ensures c.in_ok-more.ensures.same in
     let together : IsPermutation next (mine left ++ (mine born ++ taken)) =
     subst (IsPermutation next) (kept_both m (cuts_of s t) w.part left born taken)
     (IsPermutation-sym _ _ (next_moved w c.requires.worker t c.args.taken.now.items
@@ -34,7 +33,7 @@ returns-clause-owns c =
     let moved : IsPermutation next (mine left ++ c.deref.result.now) =
     subst (λ (l : List Agent). IsPermutation next (mine left ++ l)) (sym c.deref.ensures.value)
     (IsPermutation-trans next _ _ together
-    (sorted_behind (mine left) (mine born ++ taken) c.in_ok-more.more.items more)) in
+    (gathered_behind (mine left) (mine born ++ taken) c.in_ok-more.more.items more)) in
     c.in_ok-all.ensures left next c.requires.left
     (own_rises s c.requires.worker.lawful w.part (cuts_of s t) (t + 1)) moved
     (some_pass (is_lawful_agent m) (owns m (cuts_of s t) w.part) (on s (t + 1)).agents

@@ -24,7 +24,7 @@ held_in c =
     let rows = c.in_ok-rows.rows in
     let (held, many, listed) = rows_held w c.requires.worker t c.args.taken.now.items
     c.new.result.items guests c.deref.result.now c.len-count.result c.args.own rows
-    c.requires.work (search rules) c.in_ok-guests.ensures.sorted c.requires.own (search rules)
+    c.requires.work (search rules) c.in_ok-guests.ensures.same c.requires.own (search rules)
     c.deref.ensures.value c.in_ok-rows.ensures.rows c.in_ok-rows.ensures.listed in
     let ticks =
     tick_fits w c.requires.worker t stage.Border (λ e. absurd (cc)) c.requires.work.stands in (

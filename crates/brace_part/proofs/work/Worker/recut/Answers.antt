@@ -5,12 +5,11 @@ use Rattle.brace_model.specs.declared.world.Agent.{Agent}
 use Rattle.brace_pieces.specs.Continued.{on}
 use Rattle.brace_pieces.specs.Settings.{cuts_of}
 use Rattle.brace_pieces.specs.Owned.{owned}
-use Rattle.brace_pieces.specs.Together.{IsSorted}
 use Rattle.brace_part.specs.Parts.{own_before}
 use Rattle.brace_part.specs.inner.Pieces.{brought}
 use Rattle.brace_pieces.specs.declared.setting.Stage.TheVariants as stage
 use Rattle.brace_part.proofs.CellLemmas.{own_rises}
-use Rattle.brace_part.proofs.WorkOwned.{recut_moved, sorted_behind}
+use Rattle.brace_part.proofs.WorkOwned.{gathered_behind, recut_moved}
 use Rattle.brace_part.proofs.HoldWork.{mine_lawful}
 use Rattle.brace_part.proofs.work.Worker.recut.Goals as goal
 
@@ -23,14 +22,14 @@ returns-clause-owns c =
     let own = own_before s w.part stage.Hand t in
     let taken = flat_map brought c.args.taken.now.items in
     let none : c.new.result.items ≡ [] = search rules in
-    let more = subst (λ (l : List Agent). IsSorted
-    (l ++ taken) c.in_ok-more.more.items) none c.in_ok-more.ensures.sorted in
+    let more = subst (λ (l : List Agent). IsPermutation
+    (l ++ taken) c.in_ok-more.more.items) none c.in_ok-more.ensures.same in
     let moved : IsPermutation (now (on s t).agents) (now own ++ c.deref.result.now) =
     subst (λ (l : List Agent). IsPermutation (now (on s t).agents) (now own ++ l))
     (sym c.deref.ensures.value)
     (IsPermutation-trans _ (now own ++ taken) _
     (IsPermutation-sym _ _ (recut_moved w c.requires.worker t c.args.taken.now.items
-    c.requires.work own refl)) (sorted_behind (now own) taken c.in_ok-more.more.items more)) in
+    c.requires.work own refl)) (gathered_behind (now own) taken c.in_ok-more.more.items more)) in
     c.in_ok-all.ensures own (now (on s t).agents) c.requires.own
     (own_rises s c.requires.worker.lawful w.part (cuts_of s t) t) moved
     (mine_lawful w c.requires.worker t)

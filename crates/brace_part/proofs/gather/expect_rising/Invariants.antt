@@ -1,6 +1,0 @@
-use Rattle.std.proofs.Common.{ℕ, ◌+◌, ◌<◌, get_or}
-use Rattle.brace_model.specs.declared.world.Agent.{Agent}
-use Rattle.brace_part.proofs.gather.expect_rising.Given as goal
-
-abbrev pub invariant-loop-i : goal.invariant-loop-i
-invariant-loop-i l = (k : ℕ) (d : Agent) → k + 1 < l.i → (get_or l.agents k d).id < (get_or l.agents (k + 1) d).id
