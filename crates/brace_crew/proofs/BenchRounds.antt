@@ -1,9 +1,9 @@
 -- The members of a bench in a round: what their seat counts of all, how they went on, and the end.
-use Rattle.std.proofs.Common.{◌≡◌, ◌∙◌, refl, sym, ap, subst, ℕ, zero, suc, ◌+◌, ◌%◌, ◌<◌, ◌≤◌, ◌==◌, Bool, true, false, cond, List, [], ◌∷◌, map, length, take, get_or, set, arith, inl, inr}
+use Rattle.std.proofs.Common.{◌≡◌, ◌∙◌, refl, sym, ap, subst, ℕ, ◌+◌, ◌%◌, ◌<◌, ◌≤◌, ◌==◌, Bool, true, List, map, length, take, get_or, set, arith, inl, inr}
 use Rattle.std.specs.List.{All, Contains, filter, range_with_len, sum_by}
 use Rattle.std.proofs.lemmas.Bool.{cases_eq, cases_lt, eq-eqb, eqb-true}
-use Rattle.std.proofs.lemmas.List.{length-map, length-set, get_or-set_same, get_or-set_other, get_or_default, get_or_past, set-get_or, take_all}
-use Rattle.std.proofs.lemmas.List.Elements.{All-nil, All-cons, All-map, All-more, All-contains, All-filter, filter_passes}
+use Rattle.std.proofs.lemmas.List.{get_or-map, length-map, length-set, get_or-set_same, get_or-set_other, get_or_default, get_or_past, set-get_or, take_all}
+use Rattle.std.proofs.lemmas.List.Elements.{All-map, All-more, All-contains, filter_passes}
 use Rattle.brace_core.specs.declared.name.Name.{Name}
 use Rattle.brace_core.specs.declared.name.Turn.TheVariants.{Take, Done}
 use Rattle.brace_core.specs.declared.turn.Went.{Went}
@@ -25,34 +25,10 @@ use Rattle.brace_crew.specs.declared.member.Member.{Member}
 use Rattle.brace_crew.specs.Members.{course_of, kept_of, next_of, turns_to, IsDone, IsWithin, IsAt}
 use Rattle.brace_crew.specs.Benches.{served_by, IsUnused, IsUsedTo, AreServed, Waits, AreWaiting}
 use Rattle.brace_crew.specs.inner.Driven.{Counts, AreCounted, AreSame, WentAll, turns_left, both}
-use Rattle.brace_crew.proofs.MemberLemmas.{of_all_map}
+use Rattle.brace_crew.proofs.MemberLemmas.{of_all_map, kept_rise}
 use Rattle.brace_crew.proofs.RunMembers.{all_same, same_of}
 use Rattle.brace_num.proofs.Lists.{in_filter}
 use Rattle.brace_num.proofs.Rows.{row_has}
-
--- ---- numbers that a test keeps of a row rise
-
-kept_from : (f : ℕ → Bool) (n a j : ℕ) → j < length (filter f (range_with_len a n)) → a ≤ get_or (filter f (range_with_len a n)) j 0
-kept_from f n a j low =
-    All-filter f (λ q. a ≤ q) (range_with_len a n) (from_row n a a (omega arith)) j 0 low
-  where
-    from_row : (n a b : ℕ) → a ≤ b → All (λ q. a ≤ q) (range_with_len b n)
-    from_row zero a b above = All-nil (λ q. a ≤ q)
-    from_row (suc n) a b above = All-cons (λ q. a ≤ q) b (range_with_len (b + 1) n) above (from_row n a (b + 1) (omega (arith, above)))
-
-rises : (f : ℕ → Bool) (n a i j : ℕ) → i < j → j < length (filter f (range_with_len a n)) → get_or (filter f (range_with_len a n)) i 0 < get_or (filter f (range_with_len a n)) j 0
-rises f zero a i j up low = absurd (omega (arith, up, low))
-rises f (suc n) a i j up low = by_test (f a) i j up low (rises f n (a + 1))
-  where
-    rest : List ℕ
-    rest = filter f (range_with_len (a + 1) n)
-
-    by_test : (v : Bool) (i j : ℕ) → i < j → j < length (cond v (a ∷ rest) rest) → ((i j : ℕ) → i < j → j < length rest → get_or rest i 0 < get_or rest j 0)
-        → get_or (cond v (a ∷ rest) rest) i 0 < get_or (cond v (a ∷ rest) rest) j 0
-    by_test true i zero up low later = absurd (omega (arith, up))
-    by_test true zero (suc j) up low later = let above = kept_from f n (a + 1) j (omega (arith, low)) in omega (arith, above)
-    by_test true (suc i) (suc j) up low later = later i j (omega (arith, up)) (omega (arith, low))
-    by_test false i j up low later = later i j up low
 
 -- ---- what a seat counts of all members
 
@@ -82,17 +58,12 @@ module _ {P : Type 0} where
       let n : ℕ = v.actors in
       let f : ℕ → Bool = λ a. a % v.seats == v.number in
       let long : length (filter f (range_with_len 0 n)) ≡ length ms = ap length (sym numbers) ∙ length-map ms number_of in
-      let at_i : number_of (get_or ms i d) ≡ get_or (filter f (range_with_len 0 n)) i 0 = sym (at_number ms i d i_low) ∙ ap (λ ns. get_or ns i 0) numbers in
-      let at_j : number_of (get_or ms j d) ≡ get_or (filter f (range_with_len 0 n)) j 0 = sym (at_number ms j d j_low) ∙ ap (λ ns. get_or ns j 0) numbers in
+      let at_i : number_of (get_or ms i d) ≡ get_or (filter f (range_with_len 0 n)) i 0 = sym (get_or-map number_of ms i d 0 i_low) ∙ ap (λ ns. get_or ns i 0) numbers in
+      let at_j : number_of (get_or ms j d) ≡ get_or (filter f (range_with_len 0 n)) j 0 = sym (get_or-map number_of ms j d 0 j_low) ∙ ap (λ ns. get_or ns j 0) numbers in
       elim (cases_lt i j) [
-        | inl up ↦ let less = rises f n 0 i j up (omega (arith, long, j_low)) in omega (arith, less, same, at_i, at_j)
-        | inr down ↦ let less = rises f n 0 j i (omega (arith, down, other)) (omega (arith, long, i_low)) in omega (arith, less, same, at_i, at_j)
+        | inl up ↦ let less = kept_rise f n 0 i j 0 up (omega (arith, long, j_low)) in omega (arith, less, same, at_i, at_j)
+        | inr down ↦ let less = kept_rise f n 0 j i 0 (omega (arith, down, other)) (omega (arith, long, i_low)) in omega (arith, less, same, at_i, at_j)
       ]
-    where
-      at_number : (ms : List (Member P)) (i : ℕ) (d : Member P) → i < length ms → get_or (map number_of ms) i 0 ≡ number_of (get_or ms i d)
-      at_number [] i d low = absurd (omega (arith, low))
-      at_number (m ∷ ms) zero d low = refl
-      at_number (m ∷ ms) (suc i) d low = at_number ms i d (omega (arith, low))
 
   -- one member went on, and the counts of all others are left
   pub all_counted : (end : ℕ) (v w : View Setting) (ms : List (Member P)) (i : ℕ) (m n : Member P) (by : Went) → AreCounted v ms → IsSameSeat v w → i < length ms → m ≡ get_or ms i m

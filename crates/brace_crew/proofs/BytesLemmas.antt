@@ -9,7 +9,6 @@ use Rattle.std.proofs.lemmas.List.Concat.{flat_map-cons}
 use Rattle.std.proofs.lemmas.List.Sums.{AllPass-from_list_all, list_all-from_AllPass}
 use Rattle.std.proofs.lemmas.List.Elements.{All-filter, All-map}
 use Rattle.brace_cuts.specs.declared.space.Cuts.{Cuts}
-use Rattle.brace_model.specs.declared.program.Ty.{Ty}
 use Rattle.brace_model.specs.declared.program.Class.{Class}
 use Rattle.brace_model.specs.declared.program.Program.{Program}
 use Rattle.brace_model.specs.declared.world.Agent.{Agent}
@@ -26,7 +25,7 @@ use Rattle.brace_pieces.specs.Settings.{cuts_of, cuts_shown, shown_ticks}
 use Rattle.brace_pieces.specs.Steps.{steps}
 use Rattle.brace_pieces.specs.Continued.{descent, on}
 use Rattle.brace_pieces.specs.Owned.{owned}
-use Rattle.brace_pieces.specs.Right.{IsRight, IsRightIn, IsRightAt, border, handed, moved, shown}
+use Rattle.brace_pieces.specs.Right.{IsRightIn, IsRightAt, border, handed, moved, shown}
 use Rattle.brace_pieces.proofs.OnLemmas.{on_next}
 use Rattle.brace_pieces.proofs.OrderLemmas.{steps_tick}
 use Rattle.brace_part.proofs.LawfulOn.{some_pass}
@@ -80,33 +79,21 @@ module _ (s : Setting) (lawful : (t : ℕ) → LawfulAgents s.job.program (on s 
 
   module _ (number tick from to : ℕ) where
     border_of : (at : Stage) (agents : List Agent) → IsRightAt s number at tick from to (piece.Border agents) → AreOf agents
-    border_of stage.Hand agents right = absurd right
     border_of stage.Border agents right =
         subst AreOf (sym right) (all_of (border s tick from to (on s tick).agents) (some_pass (is_lawful_agent m) _ (owned m (cuts_of s tick) from (on s tick).agents) (owned_of (cuts_of s tick) from (on s tick).agents (on_of tick))))
-    border_of stage.Effects agents right = absurd right
-    border_of stage.Census agents right = absurd right
-    border_of stage.Move agents right = absurd right
-    border_of stage.Show agents right = absurd right
+    border_of _ agents right = absurd right
 
     hand_of : (at : Stage) (agents : List Agent) → IsRightAt s number at tick from to (piece.Hand agents) → AreOf agents
     hand_of stage.Hand agents right =
         subst AreOf (sym right) (all_of (handed s tick from to (on s tick).agents)
         (owned_of (cuts_of s tick) to _ (owned_of (cuts_of s (tick - 1)) from (on s tick).agents (on_of tick))))
-    hand_of stage.Border agents right = absurd right
-    hand_of stage.Effects agents right = absurd right
-    hand_of stage.Census agents right = absurd right
-    hand_of stage.Move agents right = absurd right
-    hand_of stage.Show agents right = absurd right
+    hand_of _ agents right = absurd right
 
     move_of : (at : Stage) (agents : List Agent) → ((at ≡ stage.Show → ⊥) → s.job.first ≤ tick) → IsRightAt s number at tick from to (piece.Move agents) → AreOf agents
-    move_of stage.Hand agents low right = absurd right
-    move_of stage.Border agents low right = absurd right
-    move_of stage.Effects agents low right = absurd right
-    move_of stage.Census agents low right = absurd right
     move_of stage.Move agents low right =
         subst AreOf (sym right) (all_of (moved s tick from to (on s tick))
         (owned_of (cuts_of s tick) to _ (seconds (descent s tick (on s tick)) _ (next_of tick (low (λ same. absurd cc))))))
-    move_of stage.Show agents low right = absurd right
+    move_of _ agents low right = absurd right
 
     shown_of : (ticks : List ℕ) → AllByRecursion (λ a. is_of (layout m) a ≡ true) (flat_map (λ (w : Shown). w.agents) (map (shown s tick from) ticks))
     shown_of [] = tt
@@ -116,22 +103,15 @@ module _ (s : Setting) (lawful : (t : ℕ) → LawfulAgents s.job.program (on s 
         (all_of (shown s tick from t).agents (owned_of (cuts_shown s tick) from (on s t).agents (on_of t))) (shown_of ticks))
 
     show_of : (at : Stage) (list : List Shown) → IsRightAt s number at tick from to (piece.Show list) → AreOf (flat_map (λ (w : Shown). w.agents) list)
-    show_of stage.Hand list right = absurd right
-    show_of stage.Border list right = absurd right
-    show_of stage.Effects list right = absurd right
-    show_of stage.Census list right = absurd right
-    show_of stage.Move list right = absurd right
     show_of stage.Show list right = subst (λ (l : List Shown). AreOf (flat_map (λ (w : Shown). w.agents) l)) (sym right.shown) (shown_of (shown_ticks s tick))
+    show_of _ list right = absurd right
 
     right_of : (at : Stage) → ((at ≡ stage.Show → ⊥) → s.job.first ≤ tick) → (p : Piece) → IsRightAt s number at tick from to p → IsOf (layout m) p
     right_of at low (piece.Border agents) right = border_of at agents right
-    right_of at low (piece.Effects entries) right = tt
-    right_of at low (piece.Census c) right = tt
     right_of at low (piece.Move agents) right = move_of at agents low right
     right_of at low (piece.Hand agents) right = hand_of at agents right
     right_of at low (piece.Show list) right = show_of at list right
-    right_of at low piece.Ack right = tt
-    right_of at low (piece.Halt c) right = tt
+    right_of at low _ right = tt
 
   pub have_bytes : HasBytes s
   have_bytes name p right = by_step (slice_get (steps s) name.step) refl right

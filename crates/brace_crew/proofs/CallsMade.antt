@@ -1,12 +1,11 @@
 -- Which calls a publisher was made where parts found no fault before the first ends of a run: the first calls of the run.
-use Rattle.std.proofs.Common.{◌≡◌, ◌∙◌, refl, sym, ap, ap₂, subst, ℕ, zero, suc, ◌+◌, ◌-◌, ◌%◌, ◌<◌, ◌≤◌, List, [], ◌∷◌, ◌++◌, map, filter, take, drop, take-append-drop, length-take-le, length, nat_le, Bool, true, false, cond, Option, Some, None, Ok, slice_get, All, Contains, ◌==◌, ◌||◌, append-nil, true≢false, arith, inl, inr}
+use Rattle.std.proofs.Common.{◌≡◌, ◌∙◌, refl, sym, ap, ap₂, subst, ℕ, zero, suc, ◌+◌, ◌-◌, ◌%◌, ◌<◌, ◌≤◌, List, [], ◌∷◌, ◌++◌, map, filter, take, drop, take-append-drop, take-take, get_or-drop, length-drop, length-take-le, get_or, length, nat_le, Bool, true, false, cond, Option, Some, None, Ok, slice_get, All, Contains, ◌==◌, ◌||◌, append-nil, true≢false, arith, inl, inr}
 use Rattle.std.specs.List.{range_with_len}
-use Rattle.std.proofs.lemmas.Bool.{cases_lt, cases_eq, cases_Bool}
-use Rattle.std.proofs.lemmas.Bool.Decides.{nat_tests}
-use Rattle.std.proofs.lemmas.Option.{slice_get_within}
+use Rattle.std.proofs.lemmas.Bool.{cases_lt, cases_eq, cases_Bool, lt-leb, le-leb}
+use Rattle.std.proofs.lemmas.Option.{slice_get_within, get_or_from_slice_get}
 use Rattle.std.proofs.lemmas.List.{take-map, length-map}
 use Rattle.std.proofs.lemmas.List.Concat.{flat_map-cons}
-use Rattle.std.proofs.lemmas.List.Elements.{All-head, All-tail, All-contains, All-weaker, Contains-append_left, Contains-append_right, filter-append}
+use Rattle.std.proofs.lemmas.List.Elements.{All-head, All-tail, All-contains, Contains-append_left, Contains-append_right, filter-append}
 use Rattle.brace_model.specs.declared.fault.Fault.{Fault}
 use Rattle.brace_model.specs.declared.fault.Phase.{Phase}
 use Rattle.brace_model.specs.declared.fault.Phase.TheVariants.{Query, Update, Birth}
@@ -27,7 +26,8 @@ use Rattle.brace_crew.specs.Calls.{world_shown, worlds_at, call_at, ticks_left, 
 use Rattle.brace_crew.specs.Desks.{whole_at, end_calls, AreFaultless}
 use Rattle.brace_crew.proofs.EndCalls.{whole_call}
 use Rattle.brace_crew.proofs.FirstFault.{IsRun, EndsIn}
-use Rattle.brace_num.proofs.Lists.{All-from_contains}
+use Rattle.brace_crew.proofs.MemberLemmas.{kept_rise}
+use Rattle.brace_num.proofs.Lists.{All-from_contains, filter_all, filter_none, filter_alike}
 use Rattle.brace_num.proofs.Rows.{in_row}
 
 -- ---- lists and their first items
@@ -36,22 +36,11 @@ front_made : {A B : Type 0} (f : A → B) (xs ys : List A) (rest : List B) → t
 front_made f [] ys rest = refl
 front_made f (x ∷ xs) ys rest = ap (λ zs. f x ∷ zs) (front_made f xs ys rest)
 
--- the first items of a list that all pass are the first that pass
-all_kept : {A : Type 0} (t : A → Bool) (xs : List A) → All (λ x. t x ≡ true) xs → filter t xs ≡ xs
-all_kept t [] all = refl
-all_kept t (x ∷ xs) all =
-    ap (λ c. cond c (x ∷ filter t xs) (filter t xs)) (All-head (λ x. t x ≡ true) x xs all) ∙ ap (λ ys. x ∷ ys) (all_kept t xs (All-tail (λ x. t x ≡ true) x xs all))
-
--- lists with the same first items have the same last one of these, and the same before it
+-- lists with the same first items have the same last one of these
 get_front : {A : Type 0} (m : ℕ) (xs : List A) → slice_get (take (suc m) xs) m ≡ slice_get xs m
 get_front m [] = refl
 get_front zero (x ∷ xs) = refl
 get_front (suc m) (x ∷ xs) = get_front m xs
-
-take_front : {A : Type 0} (m : ℕ) (xs : List A) → take m (take (suc m) xs) ≡ take m xs
-take_front m [] = refl
-take_front zero (x ∷ xs) = refl
-take_front (suc m) (x ∷ xs) = ap (λ ys. x ∷ ys) (take_front m xs)
 
 -- ---- numbers of a row that pass a test
 
@@ -82,42 +71,31 @@ module _ (t : ℕ → Bool) where
         | inr other ↦ later (omega (arith, low, other)) i is all
       ]
 
-  above : (a bound : ℕ) → bound < a → nat_le a bound ≡ false
-  above a bound low = grind (arith, nat_tests, low)
-
-  below : (a bound : ℕ) → a ≤ bound → nat_le a bound ≡ true
-  below a bound low = grind (arith, nat_tests, low)
-
-  none_low : (n a bound : ℕ) → bound < a → filter (λ v. nat_le v bound) (kept n a) ≡ []
-  none_low zero a bound low = refl
-  none_low (suc n) a bound low = by_test (t a) (none_low n (a + 1) bound (omega (arith, low)))
-    where
-      q : ℕ → Bool
-      q v = nat_le v bound
-
-      by_test : (c : Bool) → filter q (kept n (a + 1)) ≡ [] → filter q (cond c (a ∷ kept n (a + 1)) (kept n (a + 1))) ≡ []
-      by_test true none = ap (λ c. cond c (a ∷ filter q (kept n (a + 1))) (filter q (kept n (a + 1)))) (above a bound low) ∙ none
-      by_test false none = none
-
   -- where those before a place are low, and the one there is not, they are all that are low
   pub low_first : (n a i end bound : ℕ) → slice_get (kept n a) i ≡ Some end → bound < end → All (λ v. v ≤ bound) (take i (kept n a)) → filter (λ v. nat_le v bound) (kept n a) ≡ take i (kept n a)
-  low_first zero a i end bound is high all = no_place end i is
-  low_first (suc n) a i end bound is high all = by_test (t a) i is all (λ j is all. low_first n (a + 1) j end bound is high all)
+  low_first n a i end bound is high all =
+      let q : ℕ → Bool = λ v. nat_le v bound in
+      let xs : List ℕ = kept n a in
+      ap (filter q) (sym (take-append-drop i xs)) ∙ filter-append q (take i xs) (drop i xs)
+      ∙ ap₂ (λ ys zs. ys ++ zs)
+      (filter_alike q (λ v. true) (take i xs)
+      (λ v has. le-leb v bound (All-contains (λ v. v ≤ bound) (take i xs) v all has))
+      ∙ filter_all (take i xs))
+      (filter_alike q (λ v. false) (drop i xs) (λ v has. lt-leb v bound (above v has))
+      ∙ filter_none (drop i xs))
+      ∙ append-nil (take i xs)
     where
-      q : ℕ → Bool
-      q v = nat_le v bound
-
-      rest : List ℕ
-      rest = kept n (a + 1)
-
-      by_test : (c : Bool) (i : ℕ) → slice_get (cond c (a ∷ rest) rest) i ≡ Some end → All (λ v. v ≤ bound) (take i (cond c (a ∷ rest) rest))
-          → ((j : ℕ) → slice_get rest j ≡ Some end → All (λ v. v ≤ bound) (take j rest) → filter q rest ≡ take j rest) → filter q (cond c (a ∷ rest) rest) ≡ take i (cond c (a ∷ rest) rest)
-      by_test true zero is all later =
-          let same : a ≡ end = cc in
-          ap (λ c. cond c (a ∷ filter q rest) (filter q rest)) (above a bound (omega (arith, same, high))) ∙ none_low n (a + 1) bound (omega (arith, same, high))
-      by_test true (suc i) is all later =
-          ap (λ c. cond c (a ∷ filter q rest) (filter q rest)) (below a bound (All-head (λ v. v ≤ bound) a (take i rest) all)) ∙ ap (λ vs. a ∷ vs) (later i is (All-tail (λ v. v ≤ bound) a (take i rest) all))
-      by_test false i is all later = later i is all
+      above : (v : ℕ) → Contains (drop i (kept n a)) v → bound < v
+      above v (k, low, is_v) =
+          let first : get_or (kept n a) i v ≡ end = get_or_from_slice_get (kept n a) i end v is in
+          let there : get_or (kept n a) (i + k) v ≡ v = sym (get_or-drop i (kept n a) k v) ∙ is_v in
+          let within : i + k < length (kept n a) = omega (arith, low, length-drop i (kept n a)) in
+          elim (cases_lt i (i + k)) [
+            | inl up ↦ omega (arith, kept_rise t n a i (i + k) v up within, first, there, high)
+            | inr back ↦
+                let same : i + k ≡ i = omega (arith, back) in
+                omega (arith, ap (λ m. get_or (kept n a) m v) same, first, there, high)
+          ]
 
 -- ---- worlds that are shown
 
@@ -216,12 +194,13 @@ module _ (s : Setting) where
         let back = drop count (ends s) in
         let q : ℕ → Bool = λ e. nat_le e g.tick in
         let rest = call_of g.tick (worlds_at s (ticks_left s g.tick)) in
-        let pass : All (λ e. q e ≡ true) front = All-weaker (λ e. e ≤ g.tick) (λ e. q e ≡ true) (λ e low. is_low e g.tick low) front (ends_low count none g first) in
-        ap (λ es. take (length front) (map (call_at s) es ++ rest)) (ap (filter q) (sym (take-append-drop count (ends s))) ∙ filter-append q front back ∙ ap (λ es. es ++ filter q back) (all_kept q front pass))
+        let low = ends_low count none g first in
+        let all : filter q front ≡ front =
+        filter_alike q (λ e. true) front
+        (λ e has. le-leb e g.tick (All-contains (λ e. e ≤ g.tick) front e low has))
+        ∙ filter_all front in
+        ap (λ es. take (length front) (map (call_at s) es ++ rest)) (ap (filter q) (sym (take-append-drop count (ends s))) ∙ filter-append q front back ∙ ap (λ es. es ++ filter q back) all)
         ∙ front_made (call_at s) front (filter q back) rest
-      where
-        is_low : (e t : ℕ) → e ≤ t → nat_le e t ≡ true
-        is_low e t low = grind (arith, nat_tests, low)
 
     pub calls_begin : (count : ℕ) → AreFaultless s count → take (length (take count (ends s))) (calls s) ≡ take count (end_calls s)
     calls_begin count none = front_of count none (first_fault s.job) refl ∙ sym (calls_front count none)
@@ -240,7 +219,7 @@ module _ (s : Setting) where
             made = m;
             call = cut.call;
             is_next = sym (get_front m (calls s)) ∙ ap (λ all. slice_get all m) same ∙ get_front m (end_calls s) ∙ cut.is_next;
-            is_cut = subst (λ made. of.cut (behind of s opening made) s cut.call.tick cut.call.worlds x (of.state now)) (sym (take_front m (end_calls s)) ∙ ap (take m) (sym same) ∙ take_front m (calls s)) cut.is_cut;
+            is_cut = subst (λ made. of.cut (behind of s opening made) s cut.call.tick cut.call.worlds x (of.state now)) (sym (take-take m (suc m) (end_calls s) (omega arith)) ∙ ap (take m) (sym same) ∙ take-take m (suc m) (calls s) (omega arith)) cut.is_cut;
             found_memory = cut.found_memory;
             is_named = cut.is_named;
             written = cut.written;

@@ -1,6 +1,6 @@
 -- What all parts of a run gave, where all went to its end.
-use Rattle.std.proofs.Common.{◌≡◌, ◌∙◌, refl, sym, ap, ap₂, subst, ℕ, ◌+◌, ◌<◌, ◌≤◌, List, [], ◌∷◌, map, take, take_all, length, get_or, sum_by, All, Contains, arith}
-use Rattle.std.proofs.lemmas.List.Sums.{sum_by-cons, sum_by_more}
+use Rattle.std.proofs.Common.{◌≡◌, ◌∙◌, sym, ap, ap₂, subst, ℕ, ◌+◌, ◌<◌, ◌≤◌, List, take, take_all, length, get_or, sum_by, All, Contains, arith}
+use Rattle.std.proofs.lemmas.List.Sums.{sum_by_more}
 use Rattle.std.proofs.lemmas.List.Elements.{All-contains, Contains-get_or}
 use Rattle.brace_pieces.specs.declared.setting.Setting.{Setting}
 use Rattle.brace_pieces.specs.Steps.{steps}
@@ -28,10 +28,6 @@ one_summed f xs i x low is = λ j. record {
   moved = one_sum (λ x. (f x).moved) xs i x low is j;
   handed = one_sum (λ x. (f x).handed) xs i x low is j;
 }
-
-sum_of_map : {A B : Type 0} (f : B → ℕ) (h : A → B) (xs : List A) → sum_by (λ x. f (h x)) xs ≡ sum_by f (map h xs)
-sum_of_map f h [] = refl
-sum_of_map f h (x ∷ xs) = sum_by-cons (λ x. f (h x)) x xs ∙ ap (λ n. f (h x) + n) (sum_of_map f h xs) ∙ sym (sum_by-cons f (h x) (map h xs))
 
 -- behind the last step nothing more is given
 ends_given : (s : Setting) (p number : ℕ) → length (steps s) ≤ number → counts_up_to s p number ≡ counts_up_to s p (length (steps s))

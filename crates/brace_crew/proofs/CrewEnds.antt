@@ -1,15 +1,15 @@
 -- What a run comes to, by what its desk published and where it halted.
-use Rattle.std.proofs.Common.{◌≡◌, ◌∙◌, refl, sym, ap, subst, ℕ, zero, suc, ◌+◌, ◌-◌, ◌%◌, ◌<◌, ◌≤◌, List, [], ◌∷◌, ◌++◌, map, filter, take, take_all, length, Bool, true, false, cond, if◌then◌else◌, Some, None, Ok, Err, slice_get, All, Contains, IsTrue, ◌==◌, ◌||◌, ◌⊎◌, append-nil, arith, inl, inr}
+use Rattle.std.proofs.Common.{◌≡◌, ◌∙◌, refl, sym, ap, subst, ℕ, suc, ◌+◌, ◌-◌, ◌%◌, ◌<◌, ◌≤◌, List, [], ◌∷◌, ◌++◌, map, filter, take, take_all, take_at, length-take-le, count_by, length, Bool, true, false, cond, if◌then◌else◌, Some, None, Ok, Err, slice_get, All, Contains, IsTrue, ◌==◌, ◌||◌, ◌⊎◌, append-nil, arith, inl, inr}
 use Rattle.std.specs.List.{range_with_len}
 use Rattle.std.specs.Result.{result_err}
-use Rattle.std.proofs.lemmas.Bool.{cases_lt}
+use Rattle.std.proofs.lemmas.Bool.{cases_lt, or_right}
 use Rattle.std.proofs.lemmas.Option.{slice_get_within, get_or_from_slice_get}
-use Rattle.std.proofs.lemmas.List.Sums.{fold-append}
+use Rattle.std.proofs.lemmas.List.Sums.{fold-append, length-filter, sum_by-take-le}
 use Rattle.std.proofs.lemmas.List.Elements.{All-contains}
 use Rattle.brace_io.specs.Counts.{Rose}
 use Rattle.brace_model.specs.declared.fault.Fault.{Fault}
 use Rattle.brace_model.specs.declared.fault.Phase.{Phase}
-use Rattle.brace_model.specs.declared.fault.Phase.TheVariants.{Query, Update, Birth}
+use Rattle.brace_model.specs.declared.fault.Phase.TheVariants.{Update}
 use Rattle.brace_model.specs.Run.{world_after, first_fault}
 use Rattle.brace_invert.proofs.Heard.{seen_in}
 use Rattle.brace_pieces.specs.declared.setting.Setting.{Setting}
@@ -29,6 +29,7 @@ use Rattle.brace_part.proofs.AllGave.{border_counted, effects_counted, moved_cou
 use Rattle.brace_crew.specs.declared.publisher.Publisher as publisher
 use Rattle.brace_crew.specs.declared.publisher.PubFault.{PubFault}
 use Rattle.brace_crew.specs.declared.publisher.PubFault.TheVariants as refusal
+use Rattle.brace_crew.specs.declared.crew.CrewFault.{CrewFault}
 use Rattle.brace_crew.specs.declared.crew.CrewFault.TheVariants as fault
 use Rattle.brace_crew.specs.declared.desk.Lot.{Lot}
 use Rattle.brace_crew.specs.Refusals.{tick_of}
@@ -48,15 +49,13 @@ use Rattle.brace_pieces.proofs.OrderLemmas.{shows_later}
 use Rattle.brace_crew.proofs.FirstFault.{IsRun, EndsIn, none_sooner}
 use Rattle.brace_crew.proofs.CallsMade.{StopsAt, ends_up_to, all_calls, same_from, calls_begin, calls_front, worlds_there, cut_of_run}
 use Rattle.brace_crew.proofs.RiseLemmas.{rose_from, then_rises}
-use Rattle.brace_num.proofs.Lists.{All-from_contains, in_filter}
+use Rattle.brace_num.proofs.Lists.{All-from_contains, in_filter, none_long, at_seam}
 use Rattle.brace_num.proofs.Rows.{in_row, row_has}
 
 -- ---- where a desk halted
 
 all_taken : {A : Type 0} (es : List A) (c : ℕ) (x : A) → slice_get es c ≡ Some x → length (take c es) ≡ c
-all_taken [] c x is = absurd cc
-all_taken (e ∷ es) zero x is = refl
-all_taken (e ∷ es) (suc c) x is = omega (arith, all_taken es c x is)
+all_taken es c x is = length-take-le c es (omega (arith, slice_get_within es c x is))
 
 -- a publisher was shown all ends before that of a step, in which a cause was told
 pub record HaltedAt {P : Type 0} (of : publisher.Ghosts P) (s : Setting) (opening now : P) (lots : List Lot) (x : Cause) : Type 0 where
@@ -88,13 +87,12 @@ pub halted_at : {P : Type 0} (of : publisher.Ghosts P) (s : Setting) (d : OnDesk
 halted_at of s d x is h = (halted_so of s d x is h).0
 
 no_show : (s : Setting) (phase : Phase) → is_show (stage_of s phase) ≡ false
-no_show s Query = refl
 no_show s Update = by_test s.invert
   where
     by_test : (b : Bool) → is_show (if b then stage.Border else stage.Effects) ≡ false
     by_test true = refl
     by_test false = refl
-no_show s Birth = refl
+no_show s _ = refl
 
 module _ {P : Type 0} (of : publisher.Ghosts P) (s : Setting) (run : IsRun s) (opening : P) where
   -- a publisher that was shown the first ends was made the first calls of the run
@@ -171,8 +169,7 @@ module _ {P : Type 0} (of : publisher.Ghosts P) (s : Setting) (run : IsRun s) (o
           )
         where
           front_length : (cs : List Call) (c : Call) → (slice_get (cs ++ c ∷ []) (length cs) ≡ Some c) × (take (length cs) (cs ++ c ∷ []) ≡ cs)
-          front_length [] c = (refl, refl)
-          front_length (b ∷ cs) c = let (there, before) = front_length cs c in (there, ap (λ ds. b ∷ ds) before)
+          front_length cs c = (at_seam cs c [], take_at cs (c ∷ []) (length cs) refl)
 
 -- ---- what is left is shown at the next end
 
@@ -183,11 +180,7 @@ left_shown s end tick high same t has =
     let (low, below) = in_row from (tick + 1 - from) t in_row_there in
     let to = shown_from s end in
     in_filter (λ t. (t == end) || (t % s.job.every == 0)) (range_with_len to (end + 1 - to)) t (row_has to (end + 1 - to) t (omega (arith, same, low)) (omega (arith, same, low, below, high)))
-    (either (t == end) (t % s.job.every == 0) passes)
-  where
-    either : (a b : Bool) → b ≡ true → (a || b) ≡ true
-    either true b is = refl
-    either false b is = is
+    (or_right (t == end) (t % s.job.every == 0) passes)
 
 pub left_all : (s : Setting) (end tick : ℕ) → tick < end → shown_from s end ≡ shown_from s (tick + 1) → All (Contains (shown_ticks s end)) (ticks_left s tick)
 left_all s end tick high same = All-from_contains (Contains (shown_ticks s end)) (ticks_left s tick) (left_shown s end tick high same)
@@ -253,18 +246,22 @@ module _ {P : Type 0} (of : publisher.Ghosts P) (s : Setting) (d : OnDesk P) (of
     pub refused_cut : (x : PubFault) → HasRefused of d x → IsCut of s d.opening d.publisher (calls s) x
     refused_cut x h = (refused_made x h).0
 
+    -- and that is what the run came to
+    pub refused_came : (x : PubFault) (v : P) → v ≡ d.publisher → HasRefused of d x
+        → Rises of d.opening d.publisher → CameTo of s d.opening v (Err (fault.Publish x))
+    refused_came x v is h rises =
+        subst (λ v. CameTo of s d.opening v (Err (fault.Publish x))) (sym is)
+        (record { came = refused_cut x h; rises = rises })
+
 -- ---- behind how many steps a run ends
 
 -- the first steps show no more ends than all
 few_shown : (ats : List Step) (n : ℕ) → length (filter (λ at. is_show at.stage) (take n ats)) ≤ length (filter (λ at. is_show at.stage) ats)
-few_shown [] zero = omega arith
-few_shown [] (suc n) = omega arith
-few_shown (at ∷ ats) zero = omega arith
-few_shown (at ∷ ats) (suc n) = by_test (is_show at.stage) (filter (λ at. is_show at.stage) (take n ats)) (filter (λ at. is_show at.stage) ats) (few_shown ats n)
-  where
-    by_test : (v : Bool) (xs ys : List Step) → length xs ≤ length ys → length (cond v (at ∷ xs) xs) ≤ length (cond v (at ∷ ys) ys)
-    by_test true xs ys low = omega (arith, low)
-    by_test false xs ys low = low
+few_shown ats n =
+    let t : Step → Bool = λ at. is_show at.stage in
+    let few : count_by t (take n ats) ≤ count_by t ats =
+    sum_by-take-le (λ (at : Step). cond (t at) 1 0) ats n in
+    omega (arith, length-filter t (take n ats), length-filter t ats, few)
 
 -- so behind more ends than there are no step is left
 steps_gone : (s : Setting) (k : ℕ) → ends_before s (length (steps s)) < k → steps_to s k ≡ length (steps s)
@@ -380,17 +377,11 @@ module _ {P : Type 0} (s : Setting) (n : ℕ) (d : OnDesk P) (desk : IsDeskOf s 
 
 -- ---- where a part told a fault
 
-none_of : (ws : List Shown) → length ws ≡ 0 → ws ≡ []
-none_of [] e = refl
-none_of (w ∷ ws) e = absurd (omega (arith, e))
-
 -- a publisher refused for want of memory, or the answer tells for what
 told_as : (y : PubFault) → (y ≡ refusal.NoMemory)
     ⊎ ((y ≡ refusal.NoMemory → ⊥) × (refused_by y ≡ fault.Publish y))
 told_as refusal.NoMemory = inl refl
-told_as refusal.Write = inr ((λ e. cc), refl)
-told_as (refusal.Save k) = inr ((λ e. cc), refl)
-told_as (refusal.Watch k) = inr ((λ e. cc), refl)
+told_as _ = inr ((λ e. cc), refl)
 
 some_of : (ws : List Shown) → (length ws ≡ 0 → ⊥) → (x : Shown) × ((xs : List Shown) × (ws ≡ x ∷ xs))
 some_of [] e = absurd (e refl)
@@ -426,7 +417,7 @@ module _ {P : Type 0} (of : publisher.Ghosts P) (s : Setting) (run : IsRun s) (d
 
     pub all_was_shown : length worlds ≡ 0 → CameTo of s d.opening v (Err (fault.Fault f))
     all_was_shown none = record {
-      came = record { is_first = e.first; is_behind = nothing_left of s run d.opening v d.lots halted.0 f halts e worlds are (none_of worlds none) };
+      came = record { is_first = e.first; is_behind = nothing_left of s run d.opening v d.lots halted.0 f halts e worlds are (none_long worlds none) };
       rises = rises_there;
     }
 
@@ -463,7 +454,7 @@ module _ {P : Type 0} (of : publisher.Ghosts P) (s : Setting) (run : IsRun s) (d
             let there = end_there s halts.number halts.end halts.stands in
             (front, made ∙ all_taken (ends s) count halts.end there)
 
-        pub rest_was_refused : CameTo of s d.opening last (Err (refused_by y))
+        rest_was_refused : CameTo of s d.opening last (Err (refused_by y))
         rest_was_refused = record {
           came = elim (told_as y) [
             | inl none ↦
@@ -477,7 +468,7 @@ module _ {P : Type 0} (of : publisher.Ghosts P) (s : Setting) (run : IsRun s) (d
         }
 
         -- and there it ends where it ends for all that was shown in full
-        pub rest_ends : (n : ℕ)
+        rest_ends : (n : ℕ)
             → n ≡ steps_to s (ends_before d.course.setting halted.1.number + 2)
             → EndsBehind of s d.opening last n (Err (refused_by y))
         rest_ends n at = elim (told_as y) [
@@ -490,3 +481,12 @@ module _ {P : Type 0} (of : publisher.Ghosts P) (s : Setting) (run : IsRun s) (d
               subst (λ x. EndsBehind of s d.opening last n (Err x)) (sym other.1)
               (refused, at ∙ ap (λ k. steps_to s (k + 2)) (halts_so.1 ∙ sym made))
         ]
+
+        -- both, of what tells of the refusal
+        pub rest_told : (x : CrewFault) → x ≡ refused_by y → CameTo of s d.opening last (Err x)
+            × ((n : ℕ) → n ≡ steps_to s (ends_before d.course.setting halted.1.number + 2)
+            → EndsBehind of s d.opening last n (Err x))
+        rest_told x told = (
+          subst (λ z. CameTo of s d.opening last (Err z)) (sym told) rest_was_refused,
+          λ n at. subst (λ z. EndsBehind of s d.opening last n (Err z)) (sym told) (rest_ends n at),
+        )

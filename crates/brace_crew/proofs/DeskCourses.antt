@@ -1,7 +1,7 @@
 -- The publisher's course: it meets all parts where all is shown, and nobody else.
 use Rattle.std.proofs.Common.{◌≡◌, ◌∙◌, refl, sym, ap, ap₂, subst, ℕ, ◌+◌, ◌-◌, ◌<◌, List, [], ◌∷◌, ◌++◌, length, get_or, slice_get, nat_lt, if◌then◌else◌, Bool, true, false, cond, not, ◌&&◌, ◌==◌, Some, arith, append-nil, true≢false}
 use Rattle.std.specs.List.{range_with_len}
-use Rattle.std.proofs.lemmas.Bool.{and_right, ne_eqb, eq-eqb, le-ltb}
+use Rattle.std.proofs.lemmas.Bool.{and_right, ne_eqb, le-ltb}
 use Rattle.std.proofs.lemmas.List.FromFn.{length-range_with_len, get_or-range_with_len}
 use Rattle.brace_core.specs.declared.name.Name.{Name}
 use Rattle.brace_pieces.specs.declared.setting.Setting.{Setting}
@@ -18,9 +18,10 @@ use Rattle.brace_pieces.specs.Right.{IsRight, IsRightIn, IsRightAt, IsShown}
 use Rattle.brace_pieces.specs.Courses.{OnCourse, met_in, step_of, others_of}
 use Rattle.brace_pieces.proofs.CourseLemmas.{kept_more}
 use Rattle.brace_part.proofs.OutLemmas.{right_in}
-use Rattle.brace_part.proofs.TurnLemmas.{PutsNext, TakesNext}
+use Rattle.brace_pieces.proofs.TurnLemmas.{PutsNext, TakesNext}
 use Rattle.brace_num.proofs.Rows.{row_alike}
 use Rattle.brace_num.proofs.Lists.{filter_all, filter_none}
+use Rattle.brace_pieces.proofs.ScheduleLemmas.{meets_no_self}
 
 -- ---- whom the publisher meets
 
@@ -36,23 +37,16 @@ module _ (s : Setting) (t : ℕ) where
   meets_part q low =
       ap₂ (λ a b. not a && (if b && nat_lt q (parts s) then false else true)) (ne_eqb (parts s) q (λ same. omega (arith, low, same))) (le-ltb (parts s) (parts s) (omega arith))
 
-  not_itself : meet s (step stage.Show t) (parts s) (parts s) ≡ false
-  not_itself = ap (λ a. not a && (if nat_lt (parts s) (parts s) && nat_lt (parts s) (parts s) then false else true)) (eq-eqb (parts s) (parts s) refl)
-
   meets_all : met s (step stage.Show t) (parts s) ≡ range_with_len 0 (parts s)
   meets_all =
       let f : ℕ → Bool = meet s (step stage.Show t) (parts s) in
       kept_more f (parts s)
-      ∙ ap₂ (λ xs c. xs ++ cond c (parts s ∷ []) []) (row_alike f (λ q. true) 0 (parts s) (λ q low high. meets_part q (omega (arith, high))) ∙ filter_all (range_with_len 0 (parts s))) not_itself
+      ∙ ap₂ (λ xs c. xs ++ cond c (parts s ∷ []) []) (row_alike f (λ q. true) 0 (parts s) (λ q low high. meets_part q (omega (arith, high))) ∙ filter_all (range_with_len 0 (parts s))) (meets_no_self s (step stage.Show t) (parts s))
       ∙ append-nil (range_with_len 0 (parts s))
 
 show_is : (at : Stage) (t : ℕ) → is_show at ≡ true → step at t ≡ step stage.Show t
-show_is stage.Hand t is = absurd (true≢false (sym is))
-show_is stage.Border t is = absurd (true≢false (sym is))
-show_is stage.Effects t is = absurd (true≢false (sym is))
-show_is stage.Census t is = absurd (true≢false (sym is))
-show_is stage.Move t is = absurd (true≢false (sym is))
 show_is stage.Show t is = refl
+show_is _ t is = absurd (true≢false (sym is))
 
 -- all is shown in the step that it stands in, to which all parts come
 pub record ShowsNext (c : OnCourse) : Type 0 where
@@ -109,14 +103,10 @@ module _ (c : OnCourse) (last : c.actor ≡ parts c.setting) where
     shown_taken worlds right = right_there (piece.Show worlds) right
 
     no_other : (x : Piece) (k t to : ℕ) → ((a : Cause) → x ≡ piece.Halt a → ⊥) → ((a : List Shown) → x ≡ piece.Show a → ⊥) → IsRightAt c.setting k stage.Show t n.from to x → ⊥
-    no_other (piece.Border agents) k t to halts shows right = right
-    no_other (piece.Effects entries) k t to halts shows right = right
-    no_other (piece.Census births) k t to halts shows right = right
-    no_other (piece.Move agents) k t to halts shows right = right
-    no_other (piece.Hand agents) k t to halts shows right = right
     no_other (piece.Show worlds) k t to halts shows right = shows worlds refl
     no_other piece.Ack k t to halts shows right = omega (arith, from_part, right)
     no_other (piece.Halt a) k t to halts shows right = halts a refl
+    no_other _ k t to halts shows right = right
 
     -- or it goes no further
     pub nothing_else : (x : Piece) → IsRight c.setting n x → ((a : Cause) → x ≡ piece.Halt a → ⊥) → ((a : List Shown) → x ≡ piece.Show a → ⊥) → ⊥

@@ -1,9 +1,8 @@
 -- A desk is sound behind each of its turns.
-use Rattle.std.proofs.Common.{◌≡◌, ◌∙◌, refl, sym, ap, ap₂, subst, ℕ, zero, suc, ◌+◌, ◌-◌, ◌*◌, ◌<◌, ◌≤◌, List, [], ◌∷◌, ◌++◌, map, take, take_all, length, get_or, slice_get, length-append, All, Bool, true, false, ◌||◌, Option, Some, None, arith, inl, inr}
+use Rattle.std.proofs.Common.{◌≡◌, ◌∙◌, refl, sym, ap, ap₂, subst, ℕ, ◌+◌, ◌-◌, ◌*◌, ◌<◌, ◌≤◌, List, [], ◌∷◌, ◌++◌, map, take, take_all, length, get_or, slice_get, length-append, All, Bool, true, false, ◌||◌, Option, Some, None, arith}
 use Rattle.std.specs.List.{range_with_len}
-use Rattle.std.proofs.lemmas.Bool.{cases_eq}
 use Rattle.std.proofs.lemmas.List.{take_more, map-append, nil_from_length}
-use Rattle.std.proofs.lemmas.List.Elements.{All-nil, All-cons, All-head, All-tail, All-push}
+use Rattle.std.proofs.lemmas.List.Elements.{All-nil, All-head, All-tail, All-push, All-contains, All-map, All-weaker}
 use Rattle.std.proofs.lemmas.List.FromFn.{length-range_with_len}
 use Rattle.brace_core.specs.declared.name.Name.{Name}
 use Rattle.brace_pieces.specs.declared.setting.Setting.{Setting}
@@ -16,7 +15,7 @@ use Rattle.brace_pieces.specs.Right.{IsFaultless, IsShown, IsRightCause}
 use Rattle.brace_pieces.specs.Courses.{OnCourse, step_of, others_of, gone_on}
 use Rattle.brace_pieces.proofs.CourseLemmas.{goes_within, course_within, course_behind}
 use Rattle.brace_pieces.proofs.ToldLemmas.{right_later}
-use Rattle.brace_part.proofs.TurnLemmas.{PutsNext, TakesNext, WorksNext}
+use Rattle.brace_pieces.proofs.TurnLemmas.{PutsNext, TakesNext, WorksNext}
 use Rattle.brace_part.proofs.GoneLemmas.{gone_is}
 use Rattle.brace_io.specs.Counts.{Rose}
 use Rattle.brace_crew.specs.declared.publisher.PubFault.{PubFault}
@@ -33,6 +32,8 @@ use Rattle.brace_crew.specs.inner.Sound.{IsLot, HalfHalted, IsOpen, IsClosedBy, 
 use Rattle.brace_crew.proofs.EndCalls.{ends_more, ends_same, end_there, whole_call, call_there, faultless_more, behind_more}
 use Rattle.brace_crew.proofs.DeskCourses.{ShowsNext, shows_in, nobody_met}
 use Rattle.brace_crew.proofs.RiseLemmas.{rose_from, then_rises}
+use Rattle.brace_num.proofs.Booleans.{or_false, or_true}
+use Rattle.brace_num.proofs.Rows.{row_has}
 
 -- ---- what parts brought
 
@@ -46,17 +47,11 @@ lots_are s t (lot ∷ lots) all =
     ap₂ (λ x xs. x ∷ xs) (lot_is s t lot (All-head Q lot lots all)) (lots_are s t lots (All-tail Q lot lots all))
 
 lots_faultless : (s : Setting) (t : ℕ) (lots : List Lot) → All (λ lot. IsShown s t lot.part lot.worlds) lots → All (IsFaultless s t) (map (λ lot. lot.part) lots)
-lots_faultless s t [] all = All-nil (IsFaultless s t)
-lots_faultless s t (lot ∷ lots) all =
+lots_faultless s t lots all =
     let Q : Lot → Type 0 = λ lot. IsShown s t lot.part lot.worlds in
-    All-cons (IsFaultless s t) lot.part (map (λ lot. lot.part) lots) (All-head Q lot lots all).faultless (lots_faultless s t lots (All-tail Q lot lots all))
-
-in_row : (Q : ℕ → Type 0) (n a p : ℕ) → All Q (range_with_len a n) → a ≤ p → p < a + n → Q p
-in_row Q zero a p all low high = absurd (omega (arith, low, high))
-in_row Q (suc n) a p all low high = elim (cases_eq a p) [
-  | inl same ↦ subst Q same (All-head Q a (range_with_len (a + 1) n) all)
-  | inr other ↦ in_row Q n (a + 1) p (All-tail Q a (range_with_len (a + 1) n) all) (omega (arith, low, other)) (omega (arith, high))
-]
+    All-map (IsFaultless s t) (λ (lot : Lot). lot.part) lots
+    (All-weaker Q (λ (lot : Lot). IsFaultless s t lot.part)
+    (λ (lot : Lot) (shown : IsShown s t lot.part lot.worlds). shown.faultless) lots all)
 
 -- its publisher fits its run
 pub desk_fits : {P : Type 0} (of : publisher.Ghosts P) (d : OnDesk P) (room : ℕ) → IsDesk of d room → (s : Setting) → s ≡ d.course.setting → of.fits d.publisher s.job.program
@@ -151,14 +146,6 @@ module _ {P : Type 0} (of : publisher.Ghosts P) (d : OnDesk P) where
       → StoppedAt (desk_at (d.course.number + 1) 0 d.publisher lots why closed told) count
   stopped_on at is lots why closed told same count h = by_test (is_show at.stage) refl d.told refl
     where
-      or_false : (b : Bool) → (b || false) ≡ b
-      or_false true = refl
-      or_false false = refl
-
-      or_true : (b : Bool) → (b || true) ≡ true
-      or_true true = refl
-      or_true false = refl
-
       late : (w : Bool) → d.told ≡ w → ends_before d.course.setting (d.course.number + 1) ≡ ends_before d.course.setting d.course.number + 1 → count + 2 ≤ ends_before d.course.setting (d.course.number + 1)
       late true was ends = let up = h.has_told was in omega (arith, up, ends)
       late false was ends = let one = h.not_yet was in omega (arith, one, ends)
@@ -321,7 +308,9 @@ module _ {P : Type 0} (of : publisher.Ghosts P) (d : OnDesk P) where
           lots_whole = lots_are s t d.lots are_shown ∙ ap (map (brought s (tick_shown s t) (shown_ticks s t))) all_brought
 
           all_faultless : (p : ℕ) → p < parts s → IsFaultless s t p
-          all_faultless p low = in_row (IsFaultless s t) (parts s) 0 p (subst (All (IsFaultless s t)) all_brought (lots_faultless s t d.lots are_shown)) (omega arith) (omega (arith, low))
+          all_faultless p low = All-contains (IsFaultless s t) (range_with_len 0 (parts s)) p
+              (subst (All (IsFaultless s t)) all_brought (lots_faultless s t d.lots are_shown))
+              (row_has 0 (parts s) p (omega arith) (omega (arith, low)))
 
           -- the publisher took what it was shown
           pub open_shown : (now : P) (lots : List Lot) (why : Option Stop) (closed : Bool) → lots ≡ [] → why ≡ None

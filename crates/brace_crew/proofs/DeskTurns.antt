@@ -1,5 +1,5 @@
 -- What a desk puts and takes is right, and it is sound behind each of its turns.
-use Rattle.std.proofs.Common.{◌≡◌, ◌∙◌, refl, sym, ap, subst, ℕ, ◌+◌, ◌<◌, List, [], ◌∷◌, ◌++◌, length, take, Bool, true, false, Option, Some, None, is_some, true≢false, arith}
+use Rattle.std.proofs.Common.{◌≡◌, ◌∙◌, refl, sym, ap, subst, ℕ, ◌+◌, ◌<◌, List, [], ◌∷◌, ◌++◌, length, take, Bool, true, false, Option, Some, None, arith}
 use Rattle.brace_core.specs.declared.name.Name.{Name}
 use Rattle.brace_core.specs.declared.name.Turn.{Turn}
 use Rattle.brace_core.specs.declared.name.Turn.TheVariants.{Put, Take, Done}
@@ -14,7 +14,7 @@ use Rattle.brace_pieces.specs.Steps.{schedule}
 use Rattle.brace_pieces.specs.Right.{IsRight, IsShown}
 use Rattle.brace_pieces.specs.Courses.{OnCourse, turn_of, past_of, gone_on}
 use Rattle.brace_pieces.proofs.CourseLemmas.{course_turn}
-use Rattle.brace_part.proofs.TurnLemmas.{PutsNext, TakesNext, put_due, take_due, take_of, put_named, take_named, some_put}
+use Rattle.brace_pieces.proofs.TurnLemmas.{PutsNext, TakesNext, put_due, take_due, take_of, put_named, take_named, some_put}
 use Rattle.brace_part.proofs.GoneLemmas.{put_halt, take_halt}
 use Rattle.brace_crew.specs.declared.publisher.PubFault.{PubFault}
 use Rattle.brace_crew.specs.declared.publisher.Publisher as publisher
@@ -30,10 +30,6 @@ use Rattle.brace_num.proofs.Options.{some_none}
 -- the turn of the schedule that a desk is due
 abbrev pub turn_due : {P : Type 0} → OnDesk P → Turn
 turn_due d = turn_at (schedule d.course.setting) d.course.actor (past_of d.course)
-
--- a desk that stopped has why
-pub some_left : {A : Type 0} (o : Option A) → is_some o ≡ true → o ≡ None → ⊥
-some_left o some none = true≢false (sym some ∙ ap is_some none)
 
 take_same : (m n : Name) → Take m ≡ Take n → m ≡ n
 take_same m n e = cc
@@ -183,9 +179,8 @@ module _ {P : Type 0} (of : publisher.Ghosts P) (d : OnDesk P) (room : ℕ) (h :
         by_stop : (o : Option Stop) → d.stop ≡ o → IsRightPut (put_by o)
         by_stop None is = put_ack
         by_stop (Some (stop.Halt (cause.Fault f))) is = put_cause (cause.Fault f) is
-        by_stop (Some (stop.Halt cause.NoMemory)) is = put_memory
-        by_stop (Some (stop.Halt cause.Closed)) is = put_memory
         by_stop (Some (stop.Refusal x)) is = put_closed
+        by_stop _ is = put_memory
 
     -- ---- a take
 

@@ -12,7 +12,7 @@ use Rattle.brace_pieces.specs.Settings.{parts, shown_ticks}
 use Rattle.brace_pieces.specs.Steps.{step, is_show}
 use Rattle.brace_pieces.specs.Right.{IsShown, IsRightCause}
 use Rattle.brace_pieces.specs.Courses.{OnCourse, step_of, turn_of, gone_on}
-use Rattle.brace_part.proofs.TurnLemmas.{WorksNext, work_due, work_named}
+use Rattle.brace_pieces.proofs.TurnLemmas.{WorksNext, work_due, work_named}
 use Rattle.brace_io.specs.Counts.{Rose}
 use Rattle.brace_crew.specs.declared.publisher.PubFault.{PubFault}
 use Rattle.brace_crew.specs.declared.publisher.PubFault.TheVariants as fault

@@ -7,11 +7,10 @@ use Rattle.std.proofs.lemmas.List.Sums.{fold-append}
 use Rattle.brace_pieces.specs.declared.setting.Setting.{Setting}
 use Rattle.brace_pieces.specs.declared.setting.Stage.TheVariants.{Show}
 use Rattle.brace_pieces.specs.declared.setting.Step.{Step}
-use Rattle.brace_pieces.specs.Settings.{parts, shown_ticks}
+use Rattle.brace_pieces.specs.Settings.{parts, shown_ticks, ends}
 use Rattle.brace_pieces.specs.Steps.{step, steps, is_show}
 use Rattle.brace_pieces.specs.Right.{IsFaultless}
 use Rattle.brace_crew.specs.declared.publisher.Publisher as publisher
-use Rattle.brace_pieces.specs.Settings.{ends}
 use Rattle.brace_crew.specs.Calls.{Call, behind}
 use Rattle.brace_crew.specs.Desks.{whole_at, end_calls, ends_before, AreFaultless}
 use Rattle.brace_pieces.proofs.OrderLemmas.{ends_shown}

@@ -18,7 +18,7 @@ use Rattle.brace_pieces.specs.Settings.{LawfulSetting, parts}
 use Rattle.brace_pieces.specs.Numbers.{NumbersFit}
 use Rattle.brace_pieces.specs.Steps.{steps, schedule}
 use Rattle.brace_pieces.specs.Continued.{on}
-use Rattle.brace_pieces.specs.Finds.{queries_found, updates_found, found_at, stage_of}
+use Rattle.brace_pieces.specs.Finds.{queries_found, updates_found, found_at, stage_of, found_by}
 use Rattle.brace_pieces.specs.Right.{IsTold, IsRightCause}
 use Rattle.brace_pieces.specs.Halts.{StandsFirst, FollowsFirst}
 use Rattle.brace_pieces.specs.Courses.{OnCourse, IsCourse, past_of}
@@ -30,7 +30,6 @@ use Rattle.brace_pieces.proofs.FoundLemmas.{found_by_part, first_found}
 use Rattle.brace_part.specs.Parts.{found_in_work}
 use Rattle.brace_crew.specs.declared.member.Member.{Member}
 use Rattle.brace_crew.specs.declared.member.Member.TheVariants as member
-use Rattle.brace_pieces.specs.Finds.{found_by}
 use Rattle.brace_crew.specs.Members.{course_of, IsAt}
 use Rattle.brace_crew.specs.inner.Crews.{AreParts, fault_in, told_by, TellsAll, IsTelling}
 use Rattle.brace_num.proofs.Rows.{row_has}
@@ -112,10 +111,8 @@ module _ (c : OnCourse) (o : Option Cause) (tells : TellsAll c o) (g : Fault) wh
 -- ---- all parts together
 
 told_cause : (o : Option Cause) (f : Fault) → Contains (fault_in o) f → o ≡ Some (cause.Fault f)
-told_cause None f has = none_within _ f has
 told_cause (Some (cause.Fault g)) f has = only_one (λ x. Some (cause.Fault g) ≡ Some (cause.Fault x)) g f refl has
-told_cause (Some cause.NoMemory) f has = none_within _ f has
-told_cause (Some cause.Closed) f has = none_within _ f has
+told_cause _ f has = none_within _ f has
 
 -- the parts stand at the end of the first steps of their run, so many
 there : (s : Setting) (n : ℕ) → n ≤ length (steps s) → (c : OnCourse) → IsCourse c → c.setting ≡ s → past_of c ≡ length (turns (front (schedule c.setting) n) c.actor) → StandsThere c n

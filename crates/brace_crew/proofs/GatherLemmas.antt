@@ -15,8 +15,7 @@ use Rattle.brace_crew.specs.Members.{course_of, opening_of, IsLast}
 use Rattle.brace_crew.specs.Workers.{IsSeatOf, AreSeatsTo}
 use Rattle.brace_crew.specs.inner.Crews.{AreMembers, opening_in, all_numbers, served}
 use Rattle.brace_crew.specs.inner.Teams.{AreRosters, IsTeam, HasCome, AreStill, seat_of}
-use Rattle.brace_crew.proofs.MemberLemmas.{row_more}
-use Rattle.brace_crew.proofs.MemberLemmas.{of_all_map}
+use Rattle.brace_crew.proofs.MemberLemmas.{row_more, of_all_map}
 use Rattle.brace_crew.proofs.TeamLemmas.{team_later}
 
 -- ---- one member more, and one less

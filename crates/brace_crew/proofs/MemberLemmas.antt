@@ -1,9 +1,11 @@
 -- All members of a run before their first turns.
-use Rattle.std.proofs.Common.{◌≡◌, ◌∙◌, refl, sym, ap, ap₂, subst, ℕ, suc, ◌+◌, ◌<◌, ◌%◌, ◌==◌, cond, List, [], ◌∷◌, ◌++◌, map, length, get_or, All, Some, None, arith, eq-eqb, append-nil}
+use Rattle.std.proofs.Common.{◌≡◌, ◌∙◌, refl, sym, ap, ap₂, subst, ℕ, ◌+◌, ◌<◌, ◌%◌, ◌==◌, cond, List, [], ◌∷◌, ◌++◌, map, length, get_or, All, AllPairs, Bool, true, filter, Some, None, arith, eq-eqb, append-nil}
 use Rattle.std.specs.List.{range_with_len}
 use Rattle.std.proofs.Math.Nat.{mod-one}
 use Rattle.std.proofs.lemmas.Bool.{ne_eqb}
 use Rattle.std.proofs.Math.ListN.{get_or-append}
+use Rattle.std.proofs.lemmas.List.FromFn.{length-range_with_len, get_or-range_with_len}
+use Rattle.std.proofs.lemmas.List.Kept.{AllPairs-filter}
 use Rattle.std.proofs.lemmas.List.{map-append, length-map, length-append, get_or-map}
 use Rattle.std.proofs.lemmas.List.Elements.{All-nil, All-cons, All-head, All-tail, All-map, All-push, filter-append}
 use Rattle.brace_pieces.specs.declared.setting.Setting.{Setting}
@@ -15,8 +17,8 @@ use Rattle.brace_crew.specs.declared.member.Member.{Member}
 use Rattle.brace_crew.specs.declared.member.Member.TheVariants as member
 use Rattle.brace_crew.specs.inner.Crews.{AreMembers, AreNew, HaveDeskLast, all_numbers, opening_in, served}
 use Rattle.brace_invert.proofs.Heard.{seen_in}
-use Rattle.brace_num.proofs.Lists.{All-from_contains}
-use Rattle.brace_num.proofs.Rows.{row_more as one_more, in_row}
+use Rattle.brace_num.proofs.Lists.{All-from_contains, filter_alike, filter_all}
+use Rattle.brace_num.proofs.Rows.{row_joined, in_row}
 
 pub of_all_map : {A B : Type 0} (f : A → B) (P : B → Type 0) (xs : List A) → All P (map f xs) → All (λ x. P (f x)) xs
 of_all_map f P [] all = All-nil (λ x. P (f x))
@@ -24,9 +26,17 @@ of_all_map f P (x ∷ xs) all = All-cons (λ x. P (f x)) x xs (All-head P (f x) 
 
 pub row_more : (n : ℕ) → range_with_len 0 n ++ n ∷ [] ≡ range_with_len 0 (n + 1)
 row_more n =
-    let more : suc n ≡ n + 1 = omega arith in
     let here : n ≡ 0 + n = omega arith in
-    ap (λ m. range_with_len 0 n ++ m ∷ []) here ∙ sym (one_more 0 n) ∙ ap (range_with_len 0) more
+    ap (λ m. range_with_len 0 n ++ m ∷ []) here ∙ row_joined 0 n 1
+
+-- numbers that a test keeps of a row rise
+pub kept_rise : (f : ℕ → Bool) (n a : ℕ)
+    → AllPairs (λ (x y : ℕ). x < y) (filter f (range_with_len a n))
+kept_rise f n a = AllPairs-filter (λ (x y : ℕ). x < y) f (range_with_len a n) (λ i j d up low.
+    let long = length-range_with_len a n in
+    let here = get_or-range_with_len a n i d (omega (arith, up, low, long)) in
+    let there = get_or-range_with_len a n j d (omega (arith, low, long)) in
+    omega (arith, up, here, there))
 
 -- a worker serves a number behind a row, or it does not
 pub serves_more : (workers worker n : ℕ) → n % workers ≡ worker → served workers worker (range_with_len 0 (n + 1)) ≡ served workers worker (range_with_len 0 n) ++ n ∷ []
@@ -119,10 +129,9 @@ part_untold s n (member.Desk d) none = absurd (cc)
 
 -- one worker serves all
 pub serves_all : (worker : ℕ) → worker ≡ 0 → (xs : List ℕ) → served 1 worker xs ≡ xs
-serves_all worker is [] = refl
-serves_all worker is (x ∷ xs) =
-    ap (λ b. cond b (x ∷ served 1 worker xs) (served 1 worker xs)) (eq-eqb (x % 1) worker (mod-one x ∙ sym is))
-    ∙ ap (λ l. x ∷ l) (serves_all worker is xs)
+serves_all worker is xs =
+    filter_alike (λ a. a % 1 == worker) (λ a. true) xs
+    (λ a has. eq-eqb (a % 1) worker (mod-one a ∙ sym is)) ∙ filter_all xs
 
 -- the desk behind other members
 module _ {P : Type 0} (s : Setting) (publisher : P) (all : List (Member P)) (d : OnDesk P) (start : d.course ≡ at_start s (parts s)) (opening : d.opening ≡ publisher) where

@@ -5,7 +5,7 @@ use Rattle.std.proofs.lemmas.List.{length-map}
 use Rattle.brace_pieces.specs.declared.setting.Setting.{Setting}
 use Rattle.brace_crew.specs.declared.member.Member.{Member}
 use Rattle.brace_crew.specs.Members.{course_of, opening_of}
-use Rattle.brace_crew.specs.inner.Crews.{AreMembers, AreEnded}
+use Rattle.brace_crew.specs.inner.Crews.{AreMembers, AreNew, AreEnded, Begin, all_numbers}
 use Rattle.brace_crew.proofs.RunMembers.{are_later}
 
 as_many : {A B : Type 0} (f : A → B) (after before : List A) → map f after ≡ map f before → length after ≡ length before
@@ -15,6 +15,16 @@ as_many f after before same = sym (length-map after f) ∙ ap length same ∙ le
 pub all_back : {A B : Type 0} (f : A → B) (after before rest : List A) (n : ℕ) → map f after ≡ map f before → n ≡ length before → take n (after ++ rest) ≡ after
 all_back f after before rest n same is =
     ap (λ k. take k (after ++ rest)) (is ∙ sym (as_many f after before same)) ∙ take-append_seam after rest
+
+-- the members that are lent to a run
+pub begin_lent : {P : Type 0} (s : Setting) (publisher : P) (members lent : List (Member P))
+    → lent ≡ members → AreMembers s publisher (all_numbers s) members → AreNew members
+    → Begin s lent
+begin_lent s publisher members lent value are new = record {
+  publisher = publisher;
+  are = subst (AreMembers s publisher (all_numbers s)) (sym value) are;
+  first_turns = subst AreNew (sym value) new;
+}
 
 -- the members that were lent to a run, and that came back
 module _ {P : Type 0} (before lent after rest : List (Member P)) (n : ℕ) (value : lent ≡ before) (many : length lent ≡ n)

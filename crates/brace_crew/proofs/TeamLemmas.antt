@@ -23,6 +23,14 @@ use Rattle.brace_crew.proofs.RunMembers.{others_set, all_same, same_of, same_ope
 same_seat : (v : View Setting) → IsSameSeat v v
 same_seat v = record { setting = refl; actors = refl; seats = refl; number = refl }
 
+still_seat : (a b c : View Setting) → IsSameSeat a b → IsSameSeat b c → IsSameSeat a c
+still_seat a b c one two = record {
+  setting = two.setting ∙ one.setting;
+  actors = two.actors ∙ one.actors;
+  seats = two.seats ∙ one.seats;
+  number = two.number ∙ one.number;
+}
+
 module _ {P : Type 0} where
   -- members of one setting stay members of it
   settings_kept : (s : Setting) (ms ns : List (Member P)) → map (λ m. (course_of m).setting) ns ≡ map (λ m. (course_of m).setting) ms
@@ -102,12 +110,7 @@ module _ {P : Type 0} where
     numbers = two.numbers ∙ one.numbers;
     openings = same_openings b.members c.members two.kept ∙ one.openings;
     lanes = two.lanes ∙ one.lanes;
-    seat = record {
-      setting = two.seat.setting ∙ one.seat.setting;
-      actors = two.seat.actors ∙ one.seat.actors;
-      seats = two.seat.seats ∙ one.seat.seats;
-      number = two.seat.number ∙ one.seat.number;
-    };
+    seat = still_seat a.seat b.seat c.seat one.seat two.seat;
   }
 
   pub still_later : (xs ys zs : List (OnBench P)) → AreStill xs ys → AreLater ys zs → AreStill xs zs
@@ -122,12 +125,7 @@ module _ {P : Type 0} where
     numbers = two.numbers ∙ one.numbers;
     openings = two.openings ∙ one.openings;
     lanes = two.lanes ∙ one.lanes;
-    seat = record {
-      setting = two.seat.setting ∙ one.seat.setting;
-      actors = two.seat.actors ∙ one.seat.actors;
-      seats = two.seat.seats ∙ one.seat.seats;
-      number = two.seat.number ∙ one.seat.number;
-    };
+    seat = still_seat a.seat b.seat c.seat one.seat two.seat;
   }
 
   pub still_further : (xs ys zs : List (OnBench P)) → AreStill xs ys → AreStill ys zs → AreStill xs zs
@@ -143,12 +141,7 @@ module _ {P : Type 0} where
     numbers = two.numbers ∙ one.numbers;
     kept = two.kept ∙ one.kept;
     lanes = two.lanes ∙ one.lanes;
-    seat = record {
-      setting = two.seat.setting ∙ one.seat.setting;
-      actors = two.seat.actors ∙ one.seat.actors;
-      seats = two.seat.seats ∙ one.seat.seats;
-      number = two.seat.number ∙ one.seat.number;
-    };
+    seat = still_seat a.seat b.seat c.seat one.seat two.seat;
   }
 
   pub later_further : (xs ys zs : List (OnBench P)) → AreLater xs ys → AreLater ys zs → AreLater xs zs

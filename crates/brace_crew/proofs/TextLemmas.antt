@@ -4,7 +4,7 @@ use Rattle.std.proofs.Common.{◌≡◌, ◌∙◌, refl, sym, ap, ap₂, ℕ, z
 use Rattle.std.specs.Prelude.{slice_get, nat_lt, nat_le, ◌%◌, if◌then◌else◌}
 use Rattle.std.specs.List.{Contains, range_with_len}
 use Rattle.std.specs.Result.{result_err}
-use Rattle.std.proofs.lemmas.Bool.{or_parts, eq-eqb}
+use Rattle.std.proofs.lemmas.Bool.{or_parts, eq-eqb, lt-leb, le-leb, ne_eqb}
 use Rattle.std.proofs.lemmas.Bool.Decides.{nat_tests}
 use Rattle.std.proofs.lemmas.Grind.{flat_map-append}
 use Rattle.std.proofs.lemmas.List.{append-nil, length-append}
@@ -24,6 +24,8 @@ use Rattle.brace_pieces.proofs.FaultLemmas.{step_is_of}
 use Rattle.brace_pieces.proofs.HaltLemmas.{ended}
 use Rattle.brace_crew.specs.Calls.{Call, world_shown, worlds_at, call_at, ticks_left, call_of, calls_to, calls}
 use Rattle.brace_crew.specs.Shows.{as_world, shown_text, last_shown, saved_world}
+use Rattle.brace_part.proofs.CellLemmas.{row_front}
+use Rattle.brace_part.proofs.SumLemmas.{either_first}
 use Rattle.brace_num.proofs.Lists.{at_seam}
 use Rattle.brace_num.proofs.Rows.{in_row, row_more}
 
@@ -40,40 +42,21 @@ kept_rows f test (suc n) a none =
     one_kept f a (filter test (range_with_len (a + 1) n)) (range_with_len (a + 1) n) (test a) (none a (omega arith) (omega arith))
     (kept_rows f test n (a + 1) (λ t low high. none t (omega (arith, low)) (omega (arith, high))))
 
-one_gone : (test : ℕ → Bool) (a : ℕ) (xs : List ℕ) (c : Bool) → test a ≡ false → filter test xs ≡ [] → filter test (cond c (a ∷ xs) xs) ≡ []
-one_gone test a xs true out none = ap₂ (λ b l. cond b (a ∷ l) l) out none
-one_gone test a xs false out none = none
-
-one_cut : (test : ℕ → Bool) (a : ℕ) (xs ys : List ℕ) (c : Bool) → test a ≡ true → filter test xs ≡ ys → filter test (cond c (a ∷ xs) xs) ≡ cond c (a ∷ ys) ys
-one_cut test a xs ys true has rest = ap₂ (λ b l. cond b (a ∷ l) l) has rest
-one_cut test a xs ys false has rest = rest
-
 abbrev pub up_to : ℕ → ℕ → Bool
 up_to t v = nat_le v t
 
-is_up_to : (t v : ℕ) → v ≤ t → up_to t v ≡ true
-is_up_to t v low = grind (arith, nat_tests, low)
-
-is_behind : (t v : ℕ) → t < v → up_to t v ≡ false
-is_behind t v high = grind (arith, nat_tests, high)
-
-none_behind : (p : ℕ → Bool) (t n a : ℕ) → t < a → filter (up_to t) (filter p (range_with_len a n)) ≡ []
-none_behind p t zero a high = refl
-none_behind p t (suc n) a high = one_gone (up_to t) a (filter p (range_with_len (a + 1) n)) (p a) (is_behind t a high) (none_behind p t n (a + 1) (omega (arith, high)))
-
 -- those of a row up to one
 pub cut_row : (p : ℕ → Bool) (t k n a : ℕ) → k ≤ n → a + k ≡ t + 1 → filter (up_to t) (filter p (range_with_len a n)) ≡ filter p (range_with_len a k)
-cut_row p t zero n a short is = none_behind p t n a (omega (arith, is))
-cut_row p t (suc k) zero a short is = absurd (omega (arith, short))
-cut_row p t (suc k) (suc n) a short is =
-    one_cut (up_to t) a (filter p (range_with_len (a + 1) n)) (filter p (range_with_len (a + 1) k)) (p a) (is_up_to t a (omega (arith, is)))
-    (cut_row p t k n (a + 1) (omega (arith, short)) (omega (arith, is)))
+cut_row p t k n a short is =
+    let whole : n ≡ k + (n - k) = omega (arith, short) in
+    either_first (up_to t) p (range_with_len a n)
+    ∙ ap (λ m. filter p (filter (up_to t) (range_with_len a m))) whole
+    ∙ ap (filter p) (row_front (up_to t) a k (n - k)
+    (λ v low high. le-leb v t (omega (arith, is, high)))
+    (λ v low high. lt-leb v t (omega (arith, is, low))))
 
 not_last : (t end last : ℕ) → t < end + 1 → end ≤ last → (t == end) ≡ false → (t == last) ≡ false
 not_last t end last low within other = grind (arith, nat_tests, low, within, other)
-
-before_last : (t last : ℕ) → t < last → (t == last) ≡ false
-before_last t last low = grind (arith, nat_tests, low)
 
 -- ---- the text of what is shown
 
@@ -134,7 +117,7 @@ module _ (s : Setting) (fresh : Bool) where
       let from : ℕ = shown_from s (t + 1) in
       text_over (ticks_left s t)
       ∙ kept_rows text (λ v. v % s.job.every == 0) (t + 1 - from) from
-      (λ v low high out. unpublished v (world_after s.job (v - s.job.first)) out (before_last v s.job.last (omega (arith, low, high, within))))
+      (λ v low high out. unpublished v (world_after s.job (v - s.job.first)) out (ne_eqb v s.job.last (λ e. omega (arith, low, high, within, e))))
 
   -- ---- the text of all ends up to a tick
 

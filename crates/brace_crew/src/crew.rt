@@ -2,13 +2,13 @@ ghost use Rattle.std.specs.Prelude.{◌≡◌, ℕ, ◌+◌, ◌<◌, ◌≤◌,
 ghost use Rattle.std.specs.List.{All, Contains, find, range_with_len};
 ghost use Rattle.std.specs.Option.{option_copied};
 ghost use Rattle.std.specs.Vec.{vec_len, vec_capacity};
-ghost use Rattle.brace_core.specs.Lanes.{puts_of, takes_of};
+ghost use Rattle.brace_core.specs.Lanes.{AreBelow, puts_of, takes_of};
 ghost use Rattle.brace_model.specs.declared.fault.Fault.{Fault};
 ghost use Rattle.brace_model.specs.FaultOrder.{least};
 ghost use Rattle.brace_pieces.specs.declared.setting.Setting.{Setting};
 ghost use Rattle.brace_pieces.specs.declared.piece.Cause.TheVariants as cause;
 ghost use Rattle.brace_pieces.specs.Settings.{LawfulSetting, parts, is_end, shown_from, shown_ticks};
-ghost use Rattle.brace_pieces.specs.Steps.{steps};
+ghost use Rattle.brace_pieces.specs.Steps.{schedule, steps};
 ghost use Rattle.brace_pieces.specs.Right.{IsShown};
 ghost use Rattle.brace_pieces.specs.Courses.{IsCourse, at_start};
 ghost use Rattle.brace_part.specs.declared.counts.Counts.{Counts};
@@ -20,14 +20,13 @@ ghost use Rattle.brace_crew.specs.Desks.{whole_at, HasHalted};
 ghost use Rattle.brace_crew.specs.Members.{course_of, opening_of, HasTold, IsAt, WasUntold};
 ghost use Rattle.brace_crew.specs.Workers.{AreUsedTo, EndsBehind, HasEnded};
 ghost use Rattle.brace_crew.specs.inner.Lots.{world_of, brought, tick_shown};
-ghost use Rattle.brace_crew.specs.inner.Crews.{AreParts, AreMembers, AreNew, AreEnded, HaveDeskLast, IsDeskOf, told_by, IsTelling, AreOf, all_numbers, part_numbers, served};
+ghost use Rattle.brace_crew.specs.inner.Crews.{AreParts, AreMembers, AreNew, AreEnded, Begin, HaveDeskLast, IsDeskOf, told_by, IsTelling, AreOf, all_numbers, part_numbers, served};
 
 use crate::desk::{Lot, Stop};
 use crate::join::joined;
 use crate::{Desk, Member, PubFault, Publisher};
 use brace_core::{PlainLanes, run_in_order};
-use brace_eval::with_earlier;
-use brace_model::Fault;
+use brace_model::{Fault, with_earlier};
 use brace_num::{List, NoMemory};
 use brace_part::{Counts, Part};
 use brace_pieces::{Cause, Fronts, Piece, Setting, Shown, moves_of};
@@ -409,6 +408,17 @@ pub(crate) fn concluded<P: Publisher>(
     }
 }
 
+/// How many actors a run has, which are its parts and its desk: lanes can be made for so many.
+pub fn actors(setting: &Setting) -> u32
+    requires { LawfulSetting setting.now }
+    ensures same { result ≡ parts setting.now + 1 }
+    ensures few { result ≤ 65 }
+    ensures below { AreBelow (schedule setting.now) result }
+    ensures short { length (schedule setting.now).steps ≤ 2 ^ 40 }
+{
+    setting.parts() + 1
+}
+
 /// Runs all members of a run over plain lanes from end to end, up to the last, or to the one at
 /// which the desk put its Halt to all.
 fn run_through<P: Publisher>(
@@ -418,9 +428,7 @@ fn run_through<P: Publisher>(
     order: u64,
 )
     requires lawful { LawfulSetting setting.now }
-    requires members { (publisher : P)
-        × AreMembers setting.now publisher (all_numbers setting.now) members.old }
-    requires first_turns { AreNew members.old }
+    requires begin { Begin setting.now members.old }
     requires lanes_setting { lanes.old.setting ≡ setting.now }
     requires lanes_for { lanes.old.actors ≡ parts setting.now + 1 }
     requires nothing_put { (p q : ℕ) → puts_of lanes.old p q ≡ 0 }

@@ -8,9 +8,8 @@ ghost use Rattle.brace_crew.specs.Desks.{whole_at};
 ghost use Rattle.brace_crew.specs.inner.Lots.{brought, added_to, IsSortedWorld};
 
 use crate::desk::Lot;
-use brace_model::Agent;
 use brace_num::{List, NoMemory};
-use brace_pieces::Shown;
+use brace_pieces::{Shown, sorted};
 use std::alloc::Global;
 
 /// Worlds of some ticks, each with the agents of others of the same ticks behind its own.
@@ -31,13 +30,12 @@ fn added(alloc: Global, worlds: Vec<Shown>, more: Vec<Shown>) -> Result<Vec<Show
 }
 
 /// Worlds with their agents by rising id.
-fn sorted(alloc: Global, worlds: Vec<Shown>) -> Result<Vec<Shown>, NoMemory>
+fn all_sorted(alloc: Global, worlds: Vec<Shown>) -> Result<Vec<Shown>, NoMemory>
     ensures { IfOk result (λ all. AllZip IsSortedWorld worlds.items all.items) }
 {
     let mut all = Vec::new(alloc);
     for world in worlds {
-        let mut agents = world.agents.into_vec();
-        agents.sort_by_key(|a: &Agent| a.id)?;
+        let agents = sorted(world.agents.into_vec())?;
         all.push(Shown {
             tick: world.tick,
             agents: List::from_vec(agents),
@@ -62,5 +60,5 @@ pub fn joined(alloc: Global, lots: &mut Vec<Lot>) -> Result<Vec<Shown>, NoMemory
     while let Some(lot) = lots.pop() {
         worlds = added(alloc, worlds, lot.worlds.into_vec())?;
     }
-    sorted(alloc, worlds)
+    all_sorted(alloc, worlds)
 }

@@ -9,9 +9,9 @@ ghost use Rattle.brace_wire.specs.Shown.{is_lost};
 ghost use Rattle.brace_crew.specs.Calls.{CameTo};
 ghost use Rattle.brace_crew.specs.Members.{course_of, opening_of};
 ghost use Rattle.brace_crew.specs.Workers.{AreUsedTo, EndsBehind, TellsEnd};
-ghost use Rattle.brace_crew.specs.inner.Crews.{AreMembers, AreNew, AreEnded, all_numbers};
+ghost use Rattle.brace_crew.specs.inner.Crews.{AreMembers, AreEnded, Begin, all_numbers};
 
-use crate::crew::{concluded, end_here, members};
+use crate::crew::{actors, concluded, end_here, members};
 use crate::desk::Stop;
 use crate::{CrewFault, Desk, Member, Publisher};
 use brace_num::NoMemory;
@@ -61,9 +61,7 @@ fn run_through<P: Publisher>(
     order: u64,
 ) -> Result<(), NoMemory>
     requires lawful { LawfulSetting setting.now }
-    requires members { (publisher : P)
-        × AreMembers setting.now publisher (all_numbers setting.now) members.old }
-    requires first_turns { AreNew members.old }
+    requires begin { Begin setting.now members.old }
     requires lanes_setting { lanes.old.setting ≡ setting.now }
     requires lanes_for { lanes.old.actors ≡ parts setting.now + 1 }
     requires nothing_put { (p q : ℕ) → link_of lanes.old p q ≡ fresh }
@@ -146,7 +144,7 @@ pub fn crew_run_on_links<P: Publisher>(
     requires delivers { IsTrue (list_any (λ fate. not (is_lost fate)) fates.items) }
     ensures came { CameTo P.Publisher setting.now publisher result.0 result.1 }
 {
-    match WireLanes::make(alloc, setting, setting.parts() + 1, fates) {
+    match WireLanes::make(alloc, setting, actors(setting), fates) {
         Ok(mut lanes) => crew_run_linked(alloc, setting, order, &mut lanes, publisher),
         Err(NoMemory) => (publisher, Err(CrewFault::NoMemory)),
     }

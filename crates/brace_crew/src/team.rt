@@ -14,7 +14,7 @@ ghost use Rattle.brace_crew.specs.Workers.{AreLeft};
 ghost use Rattle.brace_crew.specs.inner.Crews.{AreMembers, all_numbers};
 ghost use Rattle.brace_crew.specs.inner.Teams.{AreRosters, IsTeam, HasCome, HaveEnded, StaysWithin, AreLater, AreStill, seat_of};
 
-use crate::crew::concluded;
+use crate::crew::{actors, concluded};
 use crate::crowd::Crowd;
 use crate::roster::benches;
 use crate::{Bench, CrewFault, Member, Publisher, crew_run_alone};
@@ -72,60 +72,39 @@ fn can_fork<R: Threads>(rt: &R) -> bool {
     }
 }
 
-/// Drives each bench through the first steps, so many, beside the others, in a thread of its own
-/// where one can be made; tells whether two were driven at one time.
-fn drive_beside<R: Threads + Wait + Sync, P: Publisher + Send, G: Gate + Sync>(
-    rt: &R,
-    benches: &mut [Bench<P>],
-    gate: &G,
-    steps: u64,
-) -> bool
-    requires some_bench { 0 < length benches.old }
-    ensures same { AreLater benches.old benches.new }
-    ensures within { (k : ℕ) (d : OnBench P) → k < length benches.old
-        → StaysWithin steps (slice_index_or benches.old k d)
-        → StaysWithin steps (slice_index_or benches.new k d) }
-{
-    let workers = benches.len();
-    let crowd = Crowd::new();
-    thread::for_each_mut(
-        rt,
-        benches,
-        workers,
-        &|_, bench|
-            ensures { IsSameBench bench.old bench.new
-                × (StaysWithin steps bench.old → StaysWithin steps bench.new) }
-        {
-            bench.drive_among(rt, gate, &crowd, steps);
-        },
-    );
-    crowd.has_met()
-}
-
-/// Drives each bench as far as it can go by itself in the first steps, so many, one behind the
-/// other in one thread.
+/// Drives each bench through the first steps, so many, in at most so many threads: in more than one
+/// beside the others, and in one as far as it can go by itself, one bench behind the other. Tells
+/// whether two were driven at one time.
 fn drive_each<R: Threads + Wait + Sync, P: Publisher + Send, G: Gate + Sync>(
     rt: &R,
     benches: &mut [Bench<P>],
     gate: &G,
+    threads: usize,
     steps: u64,
-)
+) -> bool
+    requires some_thread { 0 < threads }
     ensures same { AreLater benches.old benches.new }
     ensures within { (k : ℕ) (d : OnBench P) → k < length benches.old
         → StaysWithin steps (slice_index_or benches.old k d)
         → StaysWithin steps (slice_index_or benches.new k d) }
 {
+    let crowd = Crowd::new();
     thread::for_each_mut(
         rt,
         benches,
-        1,
+        threads,
         &|_, bench|
             ensures { IsSameBench bench.old bench.new
                 × (StaysWithin steps bench.old → StaysWithin steps bench.new) }
         {
-            bench.drive(gate, 1, steps);
+            if threads > 1 {
+                bench.drive_among(rt, gate, &crowd, steps);
+            } else {
+                bench.drive(gate, 1, steps);
+            }
         },
     );
+    crowd.has_met()
 }
 
 /// Drives the benches in turn, so often, or until all are complete in the first steps, so many.
@@ -145,7 +124,7 @@ fn drive_in_turn<R: Threads + Wait + Sync, P: Publisher + Send, G: Gate + Sync>(
         if are_complete(benches, steps) {
             return;
         }
-        drive_each(rt, benches, gate, steps);
+        drive_each(rt, benches, gate, 1, steps);
     }
 }
 
@@ -163,12 +142,13 @@ fn drive_to<R: Threads + Wait + Sync, P: Publisher + Send, G: Gate + Sync>(
     ensures same { AreLater benches.old benches.new }
     ensures come { All (HasCome steps) benches.new }
 {
+    let workers = benches.len();
     let mut times = 1u64;
     for _ in rt.forever() {
         if are_complete(benches, steps) {
             return;
         }
-        if can_fork(rt) && drive_beside(rt, benches, gate, steps) {
+        if can_fork(rt) && drive_each(rt, benches, gate, workers, steps) {
             times = 1;
         } else {
             drive_in_turn(rt, benches, gate, times, steps);
@@ -325,7 +305,7 @@ pub fn crew_run_on_one<P: Publisher>(
     requires fits { P.fits publisher setting.now.job.program }
     ensures came { CameTo P.Publisher setting.now publisher result.0 result.1 }
 {
-    match PlainLanes::make(alloc, setting, setting.parts() + 1) {
+    match PlainLanes::make(alloc, setting, actors(setting)) {
         Ok(mut lanes) => crew_run_alone(alloc, setting, order, &mut lanes, publisher),
         Err(NoMemory) => (publisher, Err(CrewFault::NoMemory)),
     }
@@ -361,7 +341,7 @@ pub fn crew_run<R: Threads + Wait + Sync, P: Publisher + Send, G: Gate + Sync>(
         let (publisher, answer) = crew_run_on_one(alloc, setting, order, publisher);
         return (publisher, Vec::new(alloc), answer);
     }
-    match Lanes::make(alloc, setting, setting.parts() + 1, workers) {
+    match Lanes::make(alloc, setting, actors(setting), workers) {
         Ok((lanes, seats)) => run_on(rt, alloc, setting, &lanes, seats, workers, publisher, gate),
         Err(NoMemory) => (publisher, Vec::new(alloc), Err(CrewFault::NoMemory)),
     }

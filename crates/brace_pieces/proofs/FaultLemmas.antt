@@ -234,8 +234,7 @@ module _ (s : Setting) (t : ℕ) (w : World) (lawful : LawfulProgram s.job.progr
 
     query_first : (g : Fault) → least queries ≡ Some g → (phase : Phase) → f.phase ≡ phase → Contains (found_over s t w phase) f → EndsBefore s t w f g
     query_first g e Query is h = beside g (all_queries_found s t w.agents) (as_of g Query is (queries_of g e)) (step_by e) (least_found s.invert ∙ e) h
-    query_first g e Update is h = behind g Query (queries_of g e) (step_by e) (omega (arith, ap phase_rank is))
-    query_first g e Birth is h = behind g Query (queries_of g e) (step_by e) (omega (arith, ap phase_rank is))
+    query_first g e _ is h = behind g Query (queries_of g e) (step_by e) (omega (arith, ap phase_rank is))
 
     update_first : (g : Fault) → least queries ≡ None → least updates ≡ Some g → (phase : Phase) → f.phase ≡ phase → Contains (found_over s t w phase) f → EndsBefore s t w f g
     update_first g none e Query is h = absurd (no_queries none h)

@@ -136,14 +136,12 @@ made_fit f h site (Ok n) sure = ok_fit (f n) (h n (sure n refl))
 made_fit f h site (Err kind) sure = err_fit _
 
 like_fits : (u : Value) (n : ℤ) → FitsSigned w64 n → FitsSigned w64 (number (like u n))
-like_fits (Int m) n f = f
-like_fits (Fixed m) n f = f
 like_fits (Flag b) n f = zero_fits
+like_fits _ n f = f
 
 typed_fits : (t : Ty) (n : ℤ) → FitsSigned w64 n → FitsSigned w64 (number (typed t n))
-typed_fits ty.Int n f = f
-typed_fits ty.Fixed n f = f
 typed_fits ty.Bool n f = flag_fits (not (int_eq n (pos 0)))
+typed_fits _ n f = f
 
 or_zero : (r : Result ℤ Kind) → Sure r → FitsSigned w64 (result_unwrap_or r (pos 0))
 or_zero (Ok n) sure = sure n refl
@@ -180,22 +178,15 @@ strict_fits bin.Sub site u x f g = made_fit (like u) (like_fits u) site (exact_s
 strict_fits bin.Mul site u x f g = made_fit (like u) (like_fits u) site (product u x) (product_sure u x)
 strict_fits bin.Div site u x f g = made_fit (like u) (like_fits u) site (quotient u x) (quotient_sure u x)
 strict_fits bin.Rem site u x f g = made_fit (like u) (like_fits u) site (exact_int_rem (number u) (number x)) (rem_if (is_zero (number x)) (number u) (number x) refl g)
-strict_fits bin.Lt site u x f g = ok_fit _ (flag_fits _)
-strict_fits bin.Le site u x f g = ok_fit _ (flag_fits _)
-strict_fits bin.Gt site u x f g = ok_fit _ (flag_fits _)
-strict_fits bin.Ge site u x f g = ok_fit _ (flag_fits _)
-strict_fits bin.Eq site u x f g = ok_fit _ (flag_fits _)
-strict_fits bin.Ne site u x f g = ok_fit _ (flag_fits _)
 strict_fits bin.Min site u x f g = ok_fit _ (like_fits u _ (least_fits (number u) (number x) f g))
 strict_fits bin.Max site u x f g = ok_fit _ (like_fits u _ (most_fits (number u) (number x) f g))
 strict_fits bin.And site u x f g = ok_fit x g
 strict_fits bin.Or site u x f g = ok_fit x g
+strict_fits _ site u x f g = ok_fit _ (flag_fits _)
 
 choose_fits : (u : Value) (a b : Worth) → HasFit a → HasFit b → HasFit (choose u a b)
-choose_fits (Int n) a b f g = g
-choose_fits (Fixed n) a b f g = g
 choose_fits (Flag true) a b f g = f
-choose_fits (Flag false) a b f g = g
+choose_fits _ a b f g = g
 
 with_fit : (w : Worth) (next : Value → Worth) → HasFit w → ((u : Value) → FitsSigned w64 (number u) → HasFit (next u)) → HasFit (with_value w next)
 with_fit (Ok u) next f h = h u (f u refl)

@@ -150,9 +150,6 @@ module _ (s : Setting) where
   shown_few zero = omega (arith, none_taken (steps s))
   shown_few (suc k) = omega (arith, shown_few k, (on_from k).one_at_most)
 
-  pub shown_one : (k : ℕ) → shows (take (steps_to s (suc k)) (steps s)) ≤ shows (take (steps_to s k) (steps s)) + 1
-  shown_one k = (on_from k).one_at_most
-
   -- and as many, where a step is left
   pub shown_all : (k : ℕ) → steps_to s k < length (steps s) → k ≤ shows (take (steps_to s k) (steps s))
   shown_all zero left = omega arith

@@ -6,7 +6,7 @@ use Rattle.std.specs.Result.{result_err}
 use Rattle.brace_core.specs.declared.name.Name.{Name}
 use Rattle.brace_model.specs.declared.fault.Fault.{Fault}
 use Rattle.brace_model.specs.declared.fault.Phase.{Phase}
-use Rattle.brace_model.specs.declared.fault.Phase.TheVariants.{Query, Update, Birth}
+use Rattle.brace_model.specs.declared.fault.Phase.TheVariants.{Query}
 use Rattle.brace_model.specs.World.{World}
 use Rattle.brace_model.specs.FaultOrder.{phase_rank, comes_before}
 use Rattle.brace_model.specs.Step.{step}
@@ -46,8 +46,7 @@ ended s (suc n) g e = (elim (world_after s.job n) as (λ r. world_after s.job n 
 
 pub found_same : (s : Setting) (t : ℕ) (phase : Phase) → found_in s t phase ≡ found_over s t (on s t) phase
 found_same s t Query = refl
-found_same s t Update = refl
-found_same s t Birth = refl
+found_same s t _ = refl
 
 module _ (s : Setting) (lawful : LawfulSetting s) (f : Fault) (low : s.job.first ≤ f.tick) (high : f.tick < s.job.last) where
   -- a run that ends in a fault in a tick has it as its first one
@@ -91,11 +90,7 @@ module _ (s : Setting) (lawful : LawfulSetting s) (f : Fault) (low : s.job.first
 
 told_at : (s : Setting) (n : ℕ) (at : Stage) (tick from to : ℕ) (f : Fault) → IsRightAt s n at tick from to (piece.Halt (cause.Fault f)) → IsTold s n f
 told_at s n stage.Hand tick from to f h = h
-told_at s n stage.Border tick from to f h = h
-told_at s n stage.Effects tick from to f h = h
-told_at s n stage.Census tick from to f h = h
-told_at s n stage.Move tick from to f h = h
-told_at s n stage.Show tick from to f h = h
+told_at s n _ tick from to f h = h
 
 told_in : (s : Setting) (name : Name) (o : Option Step) (f : Fault) → IsRightIn s name (piece.Halt (cause.Fault f)) o → IsTold s name.step f
 told_in s name None f h = absurd h

@@ -34,3 +34,6 @@ pub mod FoundLemmas
 pub mod EpochLemmas
 pub mod OrderLemmas
 pub mod LanesFor
+pub mod CensusRows
+pub mod StepLemmas
+pub mod TurnLemmas

@@ -12,7 +12,6 @@ use Rattle.brace_num.proofs.Booleans.{and_false}
 use Rattle.brace_num.proofs.Rows.{in_row, row_has}
 use Rattle.brace_invert.proofs.Heard.{seen_in}
 use Rattle.brace_invert.proofs.Runs.{turned}
-use Rattle.brace_num.proofs.Orders.{rises_by_keys, keys_by_rises}
 use Rattle.brace_num.proofs.Orders as orders
 
 -- ---- by rising id

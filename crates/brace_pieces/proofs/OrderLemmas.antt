@@ -37,19 +37,11 @@ place_in_tick Move = 5
 
 few_places : (at : Stage) → place_in_tick at ≤ 5
 few_places Show = omega arith
-few_places Hand = omega arith
-few_places Border = omega arith
-few_places Effects = omega arith
-few_places Census = omega arith
-few_places Move = omega arith
+few_places _ = omega arith
 
 behind_show : (at : Stage) → (at ≡ Show → ⊥) → 1 ≤ place_in_tick at
 behind_show Show other = absurd (other refl)
-behind_show Hand other = omega arith
-behind_show Border other = omega arith
-behind_show Effects other = omega arith
-behind_show Census other = omega arith
-behind_show Move other = omega arith
+behind_show _ other = omega arith
 
 -- the stage of a phase is not before that of an earlier phase
 update_place : (invert : Bool) → (2 ≤ place_in_tick (if invert then Border else Effects)) × (place_in_tick (if invert then Border else Effects) ≤ 4)

@@ -11,7 +11,7 @@ use Rattle.brace_cuts.specs.declared.space.Cuts.{Cuts}
 use Rattle.brace_cuts.specs.Space.{area_of}
 use Rattle.brace_pieces.specs.declared.setting.Setting.{Setting}
 use Rattle.brace_pieces.specs.declared.setting.Stage.{Stage}
-use Rattle.brace_pieces.specs.declared.setting.Stage.TheVariants.{Hand, Border, Effects, Census, Move, Show}
+use Rattle.brace_pieces.specs.declared.setting.Stage.TheVariants.{Hand, Census, Show}
 use Rattle.brace_pieces.specs.declared.setting.Step.{Step}
 use Rattle.brace_pieces.specs.Settings.{parts, range, greatest_reach, cuts_of}
 use Rattle.brace_pieces.specs.Steps.{schedule, steps, pairs_below, meet, parts_meet, may_reach, are_recut, share, is_show}
@@ -42,11 +42,9 @@ recut_either_way s tick p q =
 
 pub parts_either_way : (s : Setting) (stage : Stage) (tick p q : ℕ) → parts_meet s (record { stage = stage; tick = tick }) p q ≡ parts_meet s (record { stage = stage; tick = tick }) q p
 parts_either_way s Hand tick p q = recut_either_way s tick p q
-parts_either_way s Border tick p q = reach_either_way s tick p q
-parts_either_way s Effects tick p q = reach_either_way s tick p q
 parts_either_way s Census tick p q = refl
-parts_either_way s Move tick p q = reach_either_way s tick p q
 parts_either_way s Show tick p q = refl
+parts_either_way s _ tick p q = reach_either_way s tick p q
 
 meet_either_way : (s : Setting) (at : Step) (p q : ℕ) → meet s at p q ≡ meet s at q p
 meet_either_way s at p q =

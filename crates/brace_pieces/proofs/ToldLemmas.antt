@@ -107,8 +107,7 @@ before_later s m n f up h = record {
 
 pub right_later : (s : Setting) (m n : ℕ) (c : Cause) → m ≤ n → IsRightCause s m c → IsRightCause s n c
 right_later s m n (cause.Fault f) up h = before_later s m n f up h
-right_later s m n cause.NoMemory up h = h
-right_later s m n cause.Closed up h = h
+right_later s m n _ up h = h
 
 -- a fault of a tick and a phase that is found there may be told behind the step of that tick and phase
 told_then : (s : Setting) (t : ℕ) (phase : Phase) (f : Fault) (number : ℕ) → Contains (found_in s t phase) f → IsOf t phase f → StandsBefore s (step (stage_of s phase) t) number → IsTold s number f

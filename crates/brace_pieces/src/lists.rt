@@ -1,17 +1,18 @@
 ghost use Rattle.std.specs.Prelude.{◌≡◌, ◌<◌, pos, ◌-ℤ◌, filter, IfOk};
 ghost use Rattle.std.specs.Int.{int_max};
 ghost use Rattle.brace_num.specs.Areas.{outside, gap_to};
-ghost use Rattle.brace_cuts.specs.Space.{LawfulCuts, parts_of};
+ghost use Rattle.brace_cuts.specs.Space.{LawfulCuts};
 ghost use Rattle.brace_invert.specs.Held.{is_near};
 ghost use Rattle.brace_cuts.specs.CutPlans.{IsPlan};
 ghost use Rattle.brace_model.specs.Lawful.{LawfulProgram};
 ghost use Rattle.brace_pieces.specs.Settings.{range, cuts_of, parts};
 ghost use Rattle.brace_pieces.specs.Owned.{owns, owned, held};
+ghost use Rattle.brace_pieces.specs.Together.{IsSorted};
 
 use crate::Setting;
 use brace_cuts::Cuts;
 use brace_invert::range;
-use brace_model::{Agent, Area, Program, class_of, x_of, y_of};
+use brace_model::{Agent, Area, Program, class_of, rises, x_of, y_of};
 use brace_num::{List, NoMemory};
 use std::alloc::Global;
 
@@ -100,8 +101,9 @@ pub fn border_of(
     near_to(alloc, &setting.job.program, &area, range, agents)
 }
 
-/// Of the agents that a part's agents became, or had as children, in a tick, those that now belong
-/// to another part, by rising id where theirs rise.
+/// Of agents those that belong to a part under the cuts that hold from a tick on, by rising id
+/// where theirs rise: of those that a part's agents became, or had as children, in a tick, and of
+/// those that it owned under the cuts before.
 pub fn moves_of(
     alloc: Global,
     setting: &Setting,
@@ -123,18 +125,13 @@ pub fn moves_of(
     Ok(found)
 }
 
-/// Of a part's agents those that belong to another part under the cuts that hold from a tick on,
-/// by rising id where theirs rise.
-pub fn hand_of(
-    alloc: Global,
-    setting: &Setting,
-    tick: u64,
-    agents: &[Agent],
-    to: u32,
-) -> Result<List<Agent>, NoMemory>
-    requires { IsPlan setting.now.epoch setting.now.cuts }
-    ensures theirs { IfOk result (λ found. found
-        ≡ owned setting.now.job.program (cuts_of setting.now tick) to agents.now) }
+/// Agents by rising id; those that rise already stay as they are, and take no memory.
+pub fn sorted(mut agents: Vec<Agent>) -> Result<Vec<Agent>, NoMemory>
+    ensures { IfOk result (λ all. IsSorted agents.items all.items) }
 {
-    moves_of(alloc, setting, tick, agents, to)
+    if rises(agents.as_slice()) {
+        return Ok(agents);
+    }
+    agents.sort_by_key(|agent| agent.id)?;
+    Ok(agents)
 }

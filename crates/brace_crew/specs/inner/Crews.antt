@@ -49,6 +49,12 @@ part_numbers s = range_with_len 0 (parts s)
 abbrev pub served : ℕ → ℕ → List ℕ → List ℕ
 served workers worker numbers = filter (λ a. a % workers == worker) numbers
 
+-- all members of a run, with the desk of some publisher, before their first turns
+pub record Begin {P : Type 0} (s : Setting) (members : List (Member P)) : Type 0 where
+  pub publisher : P
+  pub are : AreMembers s publisher (all_numbers s) members
+  pub first_turns : AreNew members
+
 -- a run was driven from end to end, to that of its first steps, so many, and before that to one
 -- behind which it was to go on; where none was left that is the same
 pub record IsReached (s : Setting) (n : ℕ) : Type 0 where

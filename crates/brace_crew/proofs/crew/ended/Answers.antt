@@ -5,10 +5,9 @@ use Rattle.brace_pieces.specs.Right.{IsShown}
 use Rattle.brace_crew.specs.declared.crew.CrewFault.TheVariants as fault
 use Rattle.brace_crew.specs.Calls.{ticks_left, CameTo}
 use Rattle.brace_crew.specs.Desks.{whole_at, ends_before}
-use Rattle.brace_crew.specs.Workers.{EndsBehind}
 use Rattle.brace_pieces.proofs.FoundLemmas.{first_not_before, first_within}
 use Rattle.brace_crew.proofs.FirstFault.{IsRun, first_told}
-use Rattle.brace_crew.proofs.CrewEnds.{reached_within, stop_ends, halted_ends, fault_ends, gave_up, all_was_shown, rest_was_shown, rest_was_refused, rest_ends}
+use Rattle.brace_crew.proofs.CrewEnds.{reached_within, stop_ends, halted_ends, fault_ends, gave_up, all_was_shown, rest_was_shown, rest_told}
 use Rattle.brace_crew.proofs.crew.ended.Goals as goal
 use Rattle.brace_crew.proofs.crew.ended.Goals.{then-not-is_empty+in_default-epoch, else-not-is_empty}
 
@@ -62,31 +61,20 @@ returns-in-Err g c =
     let filled : (vec_len worlds == 0) ≡ false = search rules in
     let value : c.deref.result.now ≡ worlds.items = c.deref.ensures.value in
     let some : length c.deref.result.now ≡ 0 → ⊥ = λ none. true≢false (sym (eq-eqb (vec_len worlds) 0 (long ∙ ap length (sym value) ∙ none)) ∙ filled) in
+    let (came, ends) = rest_told g.P.Publisher s run c.args.desk c.requires.desk c.requires.halted
+    c.requires.rises f e c.into_publisher-publisher.result
+    c.into_publisher-publisher.ensures.same c.deref.result.now
+    (λ end ends high same kept. value ∙ subst (λ r. IfOk r (λ found. IfSome found (λ worlds. worlds.items ≡ map (whole_at s) (ticks_left s f.tick)))) found
+    (c.worlds_left-left.ensures end ends high same (subst (All (λ lot. IsShown s end lot.part lot.worlds)) (sym c.kept.ensures) kept)))
+    some c.epoch.new.self (record { writes_rise = c.epoch.ensures.writes_rise; saves_rise = c.epoch.ensures.saves_rise; same_loans = c.epoch.ensures.same_loans; still_fits = c.epoch.ensures.still_fits })
+    c.in-Err.refusal c.in-Err.ensures.cut (λ none. c.in-Err.ensures.unmoved (ap Err none))
+    c.in-Err.ensures.saved (λ named. c.in-Err.ensures.written (ap Err named))
+    c.refused_by.result c.refused_by.ensures in
     record {
-      came = subst (λ x. CameTo g.P.Publisher s c.args.desk.opening c.epoch.new.self (Err x))
-          (sym c.refused_by.ensures)
-          (rest_was_refused g.P.Publisher s run c.args.desk c.requires.desk c.requires.halted
-          c.requires.rises f e c.into_publisher-publisher.result
-          c.into_publisher-publisher.ensures.same c.deref.result.now
-          (λ end ends high same kept. value ∙ subst (λ r. IfOk r (λ found. IfSome found (λ worlds. worlds.items ≡ map (whole_at s) (ticks_left s f.tick)))) found
-          (c.worlds_left-left.ensures end ends high same (subst (All (λ lot. IsShown s end lot.part lot.worlds)) (sym c.kept.ensures) kept)))
-          some c.epoch.new.self (record { writes_rise = c.epoch.ensures.writes_rise; saves_rise = c.epoch.ensures.saves_rise; same_loans = c.epoch.ensures.same_loans; still_fits = c.epoch.ensures.still_fits })
-          c.in-Err.refusal c.in-Err.ensures.cut (λ none. c.in-Err.ensures.unmoved (ap Err none))
-          c.in-Err.ensures.saved (λ named. c.in-Err.ensures.written (ap Err named)));
-      ends = λ n at desk.
-          subst (λ x. EndsBehind g.P.Publisher s c.args.desk.opening c.epoch.new.self n (Err x))
-          (sym c.refused_by.ensures)
-          (rest_ends g.P.Publisher s run c.args.desk c.requires.desk c.requires.halted
-          c.requires.rises f e c.into_publisher-publisher.result
-          c.into_publisher-publisher.ensures.same c.deref.result.now
-          (λ end ends high same kept. value ∙ subst (λ r. IfOk r (λ found. IfSome found (λ worlds. worlds.items ≡ map (whole_at s) (ticks_left s f.tick)))) found
-          (c.worlds_left-left.ensures end ends high same (subst (All (λ lot. IsShown s end lot.part lot.worlds)) (sym c.kept.ensures) kept)))
-          some c.epoch.new.self (record { writes_rise = c.epoch.ensures.writes_rise; saves_rise = c.epoch.ensures.saves_rise; same_loans = c.epoch.ensures.same_loans; still_fits = c.epoch.ensures.still_fits })
-          c.in-Err.refusal c.in-Err.ensures.cut (λ none. c.in-Err.ensures.unmoved (ap Err none))
-          c.in-Err.ensures.saved (λ named. c.in-Err.ensures.written (ap Err named))
-          n (stop_ends s n c.args.desk desk c.requires.course
+      came = came;
+      ends = λ n at desk. ends n (stop_ends s n c.args.desk desk c.requires.course
           (ends_before c.args.desk.course.setting c.requires.halted.1.number)
-          c.requires.halted.1.stopped));
+          c.requires.halted.1.stopped);
     }
 
 pub returns : goal.returns

@@ -6,7 +6,7 @@ use Rattle.brace_crew.specs.Calls.{CameTo}
 use Rattle.brace_crew.specs.Members.{IsAt}
 use Rattle.brace_crew.specs.Workers.{EndsBehind}
 use Rattle.brace_crew.proofs.FirstFault.{IsRun}
-use Rattle.brace_crew.proofs.CrewEnds.{between, goes_through, all_were_shown, shown_ends, halted_ends, refused_ends, has_run, shown_front, halted_front, refused_cut}
+use Rattle.brace_crew.proofs.CrewEnds.{between, goes_through, all_were_shown, shown_ends, halted_ends, refused_ends, has_run, shown_front, halted_front, refused_came}
 use Rattle.brace_crew.proofs.crew.settled.Goals as goal
 
 pub ended-publisher-requires-clause-halted : goal.ended-publisher-requires-clause-halted
@@ -84,10 +84,9 @@ returns-in-Some-Refusal g c =
     let is : d.stop ≡ Some (stop.Refusal x) = search rules in
     let (n, (at, desk)) = c.requires.ended in
     record {
-      came = subst (λ v. CameTo g.P.Publisher s d.opening v (Err (fault.Publish x))) (sym c.into_publisher-in-Some-Refusal.ensures.same) (record {
-        came = refused_cut g.P.Publisher s d desk.setting_is run x (c.stop.ensures.refused x is);
-        rises = c.stop.ensures.rises;
-      });
+      came = refused_came g.P.Publisher s d desk.setting_is run x
+          c.into_publisher-in-Some-Refusal.result c.into_publisher-in-Some-Refusal.ensures.same
+          (c.stop.ensures.refused x is) c.stop.ensures.rises;
       ends = λ n at desk.
           subst (λ v. EndsBehind g.P.Publisher s d.opening v n (Err (fault.Publish x))) (sym c.into_publisher-in-Some-Refusal.ensures.same)
           (refused_ends s n d desk c.stop.ensures.course g.P.Publisher run x (c.stop.ensures.refused x is));

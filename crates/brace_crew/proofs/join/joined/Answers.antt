@@ -26,5 +26,5 @@ loop-lot-preserved c = record {
 pub returns-clause-whole : goal.returns-clause-whole
 returns-clause-whole c s held ticks lawful numbers are =
     let none : c.loop-lot.lots.items ≡ [] = search rules in
-    IfOk-weaker c.sorted.result (λ all. AllZip IsSortedWorld c.loop-lot.worlds.items all.items) (λ all. all.items ≡ map (whole_at s) ticks)
-    (λ all sorted. left_none s held lawful numbers ticks c.loop-lot.lots.items c.loop-lot.worlds.items all.items (c.loop-lot.invariant.left s held ticks are) none sorted) c.sorted.ensures
+    IfOk-weaker c.all_sorted.result (λ all. AllZip IsSortedWorld c.loop-lot.worlds.items all.items) (λ all. all.items ≡ map (whole_at s) ticks)
+    (λ all sorted. left_none s held lawful numbers ticks c.loop-lot.lots.items c.loop-lot.worlds.items all.items (c.loop-lot.invariant.left s held ticks are) none sorted) c.all_sorted.ensures

@@ -1,14 +1,11 @@
-use Rattle.std.proofs.Common.{sym, subst}
-use Rattle.brace_crew.specs.inner.Crews.{AreMembers, AreNew, all_numbers}
-use Rattle.brace_crew.proofs.RunEnds.{members_back, ended_back}
+use Rattle.brace_crew.specs.inner.Crews.{all_numbers}
+use Rattle.brace_crew.proofs.RunEnds.{begin_lent, members_back, ended_back}
 use Rattle.brace_crew.proofs.linked.crew_run_linked.Goals as goal
 
-pub run_through-requires-clause-members : goal.run_through-requires-clause-members
-run_through-requires-clause-members g c =
-    (c.args.publisher, subst (AreMembers c.args.setting.now c.args.publisher (all_numbers c.args.setting.now)) (sym c.deref_mut.ensures.value) c.in-Ok.ensures.members)
-
-pub run_through-requires-clause-first_turns : goal.run_through-requires-clause-first_turns
-run_through-requires-clause-first_turns g c = subst AreNew (sym c.deref_mut.ensures.value) c.in-Ok.ensures.first_turns
+pub run_through-requires-clause-begin : goal.run_through-requires-clause-begin
+run_through-requires-clause-begin g c =
+    begin_lent c.args.setting.now c.args.publisher c.in-Ok.members.items c.deref_mut.result.now
+    c.deref_mut.ensures.value c.in-Ok.ensures.members c.in-Ok.ensures.first_turns
 
 pub concluded-requires-clause-members : goal.concluded-requires-clause-members
 concluded-requires-clause-members g c =

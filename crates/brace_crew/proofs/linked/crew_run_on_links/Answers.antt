@@ -1,22 +1,12 @@
-use Rattle.std.proofs.Common.{sym, subst, ◌+◌, arith}
-use Rattle.brace_core.specs.Lanes.{AreBelow}
-use Rattle.brace_pieces.specs.Steps.{schedule}
-use Rattle.brace_pieces.proofs.LanesFor.{few_actors, parts_below, schedule_short}
 use Rattle.brace_part.proofs.LawfulOn.{on_lawful}
 use Rattle.brace_crew.proofs.BytesLemmas.{have_bytes}
 use Rattle.brace_crew.proofs.linked.crew_run_on_links.Goals as goal
 
-pub overflow_add-parts : goal.overflow_add-parts
-overflow_add-parts g c = omega (arith, few_actors c.args.setting.now c.requires.lawful, c.parts.ensures)
-
-pub make-requires-clause-few : goal.make-requires-clause-few
-make-requires-clause-few g c = omega (arith, few_actors c.args.setting.now c.requires.lawful, c.parts.ensures)
-
 pub make-requires-clause-below : goal.make-requires-clause-below
-make-requires-clause-below g c = subst (λ n. AreBelow (schedule c.args.setting.now) (n + 1)) (sym c.parts.ensures) (parts_below c.args.setting.now)
+make-requires-clause-below g c = c.actors.ensures.below
 
 pub make-requires-clause-short : goal.make-requires-clause-short
-make-requires-clause-short g c = schedule_short c.args.setting.now c.requires.lawful
+make-requires-clause-short g c = c.actors.ensures.short
 
 pub make-requires-clause-has_bytes : goal.make-requires-clause-has_bytes
 make-requires-clause-has_bytes g c = have_bytes c.args.setting.now (on_lawful c.args.setting.now c.requires.lawful)

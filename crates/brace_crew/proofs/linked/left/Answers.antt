@@ -3,7 +3,7 @@ use Rattle.brace_crew.specs.declared.desk.Stop.TheVariants as stop
 use Rattle.brace_crew.specs.declared.crew.CrewFault.TheVariants as fault
 use Rattle.brace_crew.specs.Calls.{CameTo}
 use Rattle.brace_crew.proofs.FirstFault.{IsRun}
-use Rattle.brace_crew.proofs.CrewEnds.{shown_front, refused_cut}
+use Rattle.brace_crew.proofs.CrewEnds.{shown_front, refused_came}
 use Rattle.brace_crew.proofs.LinkedEnds.{none_refused, halted_unrefused}
 use Rattle.brace_crew.proofs.linked.left.Goals as goal
 
@@ -40,15 +40,12 @@ returns-in-Some-Halt g c =
 
 pub returns-in-Some-Refusal : goal.returns-in-Some-Refusal
 returns-in-Some-Refusal g c =
-    let s = c.args.setting.now in
-    let d = c.args.desk in
-    let run : IsRun s = record { lawful = c.requires.lawful; numbers = c.numbers_fit.ensures } in
     let x = c.in-Some-Refusal.refusal in
-    let is : d.stop ≡ Some (stop.Refusal x) = search rules in
+    let is : c.args.desk.stop ≡ Some (stop.Refusal x) = search rules in
     record {
-      came = subst (λ v. CameTo g.P.Publisher s d.opening v (Err (fault.Publish x))) (sym c.into_publisher-in-Some-Refusal.ensures.same) (record {
-        came = refused_cut g.P.Publisher s d c.requires.desk run x (c.stop.ensures.refused x is);
-        rises = c.stop.ensures.rises;
-      });
+      came = refused_came g.P.Publisher c.args.setting.now c.args.desk c.requires.desk
+          (record { lawful = c.requires.lawful; numbers = c.numbers_fit.ensures }) x
+          c.into_publisher-in-Some-Refusal.result c.into_publisher-in-Some-Refusal.ensures.same
+          (c.stop.ensures.refused x is) c.stop.ensures.rises;
       no_end = λ tells. tells;
     }

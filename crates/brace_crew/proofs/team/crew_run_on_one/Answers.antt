@@ -1,17 +1,7 @@
-use Rattle.std.proofs.Common.{sym, subst, ◌+◌, arith}
-use Rattle.brace_core.specs.Lanes.{AreBelow}
-use Rattle.brace_pieces.specs.Steps.{schedule}
-use Rattle.brace_pieces.proofs.LanesFor.{few_actors, parts_below, schedule_short}
 use Rattle.brace_crew.proofs.team.crew_run_on_one.Goals as goal
 
-pub overflow_add-parts : goal.overflow_add-parts
-overflow_add-parts g c = omega (arith, few_actors c.args.setting.now c.requires.lawful, c.parts.ensures)
-
-pub make-requires-clause-few : goal.make-requires-clause-few
-make-requires-clause-few g c κs = omega (arith, few_actors c.args.setting.now c.requires.lawful, c.parts.ensures)
-
 pub make-requires-clause-below : goal.make-requires-clause-below
-make-requires-clause-below g c κs = subst (λ n. AreBelow (schedule c.args.setting.now) (n + 1)) (sym c.parts.ensures) (parts_below c.args.setting.now)
+make-requires-clause-below g c κs = c.actors.ensures.below
 
 pub make-requires-clause-short : goal.make-requires-clause-short
-make-requires-clause-short g c κs = schedule_short c.args.setting.now c.requires.lawful
+make-requires-clause-short g c κs = c.actors.ensures.short

@@ -3,7 +3,7 @@ use Rattle.std.specs.List.{All}
 use Rattle.brace_crew.specs.inner.Teams.{AreLater, StaysWithin}
 use Rattle.brace_crew.proofs.TeamLemmas.{later_further, still_within}
 use Rattle.brace_crew.proofs.team.drive_to.Goals as goal
-use Rattle.brace_crew.proofs.team.drive_to.Goals.{else-can_fork-via-then-can_fork+else-drive_beside, else-can_fork-via-else-can_fork}
+use Rattle.brace_crew.proofs.team.drive_to.Goals.{else-can_fork-via-then-can_fork+else-drive_each, else-can_fork-via-else-can_fork}
 
 pub loop-preserved : goal.loop-preserved
 loop-preserved g c =
@@ -13,10 +13,10 @@ loop-preserved g c =
     let e = c.drive_in_turn.ensures in
     let now : AreLater first c.else-can_fork.benches × All (StaysWithin c.args.steps) c.else-can_fork.benches =
     elim c.else-can_fork.branch [
-      | else-can_fork-via-then-can_fork+else-drive_beside w ↦
-          let on = w.drive_beside.ensures in
+      | else-can_fork-via-then-can_fork+else-drive_each w ↦
+          let on = w.drive_each.ensures in
           subst (λ bs. AreLater first bs × All (StaysWithin c.args.steps) bs) (sym w.benches-is)
-          (later_further first before w.drive_beside.new.benches so.same on.same, still_within c.args.steps before w.drive_beside.new.benches on.same on.within so.within)
+          (later_further first before w.drive_each.new.benches so.same on.same, still_within c.args.steps before w.drive_each.new.benches on.same on.within so.within)
       | else-can_fork-via-else-can_fork w ↦ subst (λ bs. AreLater first bs × All (StaysWithin c.args.steps) bs) (sym w.benches-is) (so.same, so.within)
     ] in
     record {

@@ -1,6 +1,7 @@
 use Rattle.std.proofs.Common.{rules, ◌∙◌, sym, ap, not}
 use Rattle.std.specs.Vec.{vec_capacity}
-use Rattle.brace_crew.proofs.DeskTurns.{some_left, take_left, take_turn, take_closed, take_first, take_again, take_place, take_lot, take_other}
+use Rattle.brace_part.proofs.GoneLemmas.{no_cause as some_left}
+use Rattle.brace_crew.proofs.DeskTurns.{take_left, take_turn, take_closed, take_first, take_again, take_place, take_lot, take_other}
 use Rattle.brace_crew.proofs.desk.DeskActorPiece.give.Goals as goal
 
 pub go_on-requires : goal.go_on-requires

@@ -6,7 +6,7 @@ use Rattle.brace_pieces.specs.Steps.{is_show}
 use Rattle.brace_crew.specs.declared.desk.Desk.TheInside.{Inside}
 use Rattle.brace_crew.specs.inner.Sound.{IsDesk, shows_in}
 use Rattle.brace_crew.proofs.DeskKept.{desk_fits}
-use Rattle.brace_crew.proofs.DeskTurns.{some_left}
+use Rattle.brace_part.proofs.GoneLemmas.{no_cause as some_left}
 use Rattle.brace_crew.proofs.DeskWorks.{next_work, work_left, work_closed, work_other, work_brought, work_stopped, work_shown, work_refused}
 use Rattle.brace_crew.proofs.desk.DeskActorPiece.work.Goals as goal
 use Rattle.brace_crew.proofs.desk.DeskActorPiece.work.Goals.{then-is_none+in-Err, then-is_none+in_default-shown, else-is_none}

@@ -2,7 +2,7 @@ use Rattle.std.proofs.Common.{◌≡◌, ◌++◌, length}
 use Rattle.std.specs.List.{AllZip}
 use Rattle.std.specs.Vec.Iter.{into_iter_items, into_iter_len}
 use Rattle.brace_crew.specs.inner.Lots.{IsSortedWorld}
-use Rattle.brace_crew.proofs.join.sorted.Given as goal
+use Rattle.brace_crew.proofs.join.all_sorted.Given as goal
 
 abbrev pub invariant-loop-world : goal.invariant-loop-world
 invariant-loop-world l = record {
