@@ -11,17 +11,13 @@ failed e = Err e
 -- an answer that is no yes and no fault of the run, and right where it tells a line
 pub is_right : (e : AuditFault) (right : Result Unit AuditFault) → failed e ≢ failed found.Absent → ((f : Fault) → failed e ≢ failed (found.Fault f)) → ((line : ℕ) → failed e ≡ failed (found.Differs line) → right ≡ failed (found.Differs line)) → IsRight (failed e) right
 is_right found.Absent right present faultless differs = absurd (present refl)
-is_right found.Failed right present faultless differs = tt
 is_right (found.Differs line) right present faultless differs = differs line refl
 is_right (found.Fault f) right present faultless differs = absurd (faultless f refl)
-is_right found.NoMemory right present faultless differs = tt
+is_right _ right present faultless differs = tt
 
 abbrev line_of : AuditFault → ℕ
-line_of found.Absent = 0
-line_of found.Failed = 0
 line_of (found.Differs line) = line
-line_of (found.Fault f) = 0
-line_of found.NoMemory = 0
+line_of _ = 0
 
 abbrev line_told : Result Unit AuditFault → ℕ
 line_told (Ok u) = 0
@@ -33,8 +29,5 @@ one_line a b e = ap line_told e
 
 -- the fault of the run that an error names
 abbrev pub fault_told : Fault → AuditFault → Fault
-fault_told other found.Absent = other
-fault_told other found.Failed = other
-fault_told other (found.Differs line) = other
 fault_told other (found.Fault f) = f
-fault_told other found.NoMemory = other
+fault_told other _ = other

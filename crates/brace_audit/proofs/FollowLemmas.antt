@@ -11,15 +11,11 @@ use Rattle.brace_audit.specs.declared.comparer.Comparer.{Comparer}
 use Rattle.brace_audit.specs.declared.fault.AuditFault.{AuditFault}
 use Rattle.brace_audit.specs.declared.fault.AuditFault.TheVariants as found
 use Rattle.brace_audit.specs.Outcome.{outcome}
-use Rattle.brace_audit.specs.inner.Reading.{Compares, Comparing, GoesOn, Departs, Stops, GoesFurther}
+use Rattle.brace_audit.specs.inner.Reading.{Compares, GoesOn, Departs, Stops, GoesFurther}
 use Rattle.brace_audit.specs.inner.Following.{Follows, Told}
 use Rattle.brace_audit.proofs.LineLemmas.{differs_nowhere}
 use Rattle.brace_audit.proofs.AnswerLemmas.{failed, is_right, fault_told}
 use Rattle.brace_audit.proofs.AuditLemmas.{text_of_first, text_at_first, world_at_first, after_step, text_after, departs_at, judged_by, all_ticks, fault_text, fault_end}
-
--- where it follows, it compares
-pub comparing : (held : Option Files) (stage : Stage) (name : List ℕ) (job : Job) (tick : ℕ) (world : World) (c : Comparer) → Follows held stage name job tick world c → Comparing held stage name c
-comparing held stage name job tick world c i = (text_of_ticks job true (tick - job.first + 1), i.compares)
 
 -- behind the rows of the first tick
 pub begins : (held later : Option Files) (stage after : Stage) (name : List ℕ) (job : Job) (c d : Comparer) → Compares held stage name [] c → GoesOn held stage c later after d name (tick_text job true job.first (Ok job.start)) → Follows later after name job job.first job.start d
@@ -49,15 +45,6 @@ told held name job e present faultless differs =
       right = λ file h. is_right e (outcome (Some file) job) present faultless (λ line is. differs line is file h);
       present = λ is. present (ap failed is);
       faulted = λ f is. absurd (faultless f (ap failed is));
-    }
-
--- want of memory
-pub told_nothing : (held : Option Files) (name : List ℕ) (job : Job) → Told held name job found.NoMemory
-told_nothing held name job =
-    record {
-      right = λ file h. tt;
-      present = λ is. cc;
-      faulted = λ f is. cc;
     }
 
 -- an error at the rows of the first tick

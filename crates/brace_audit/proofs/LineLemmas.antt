@@ -20,9 +20,8 @@ same (b ∷ x) = same_head b x x ∙ same x
 
 -- no line is empty
 abbrev is_filled : List (List ℕ) → Bool
-is_filled [] = true
 is_filled ([] ∷ ls) = false
-is_filled ((b ∷ l) ∷ ls) = true
+is_filled _ = true
 
 filled_with : (c : Bool) (b : ℕ) (ls : List (List ℕ)) → is_filled (with_byte c b ls) ≡ true
 filled_with true b ls = refl

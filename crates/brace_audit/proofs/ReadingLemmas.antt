@@ -3,10 +3,10 @@ use Rattle.std.proofs.Common.{◌≡◌, ◌≢◌, ◌∙◌, sym, ap, ap₂, s
 use Rattle.std.proofs.lemmas.List.{append-nil, take-append-drop, drop-drop, drop_more, take_more, get_or_default}
 use Rattle.std.proofs.lemmas.Bool.Decides.{nat_tests}
 use Rattle.std.proofs.lemmas.List.Sums.{sum_by-append}
-use Rattle.brace_io.specs.Shelves.{Files, Stage, held_at, ReadsFrom, Next, IsReading}
+use Rattle.brace_io.specs.Shelves.{Files, Stage, held_at, ReadsFrom, Next}
 use Rattle.brace_audit.specs.declared.comparer.Comparer.{Comparer}
 use Rattle.brace_audit.specs.Differs.{differs}
-use Rattle.brace_audit.specs.inner.Reading.{line_feeds, ahead, unread, Compares, Comparing}
+use Rattle.brace_audit.specs.inner.Reading.{line_feeds, ahead, unread, Compares}
 use Rattle.brace_audit.proofs.LineLemmas.{differs_behind}
 
 -- nothing behind a text
@@ -15,10 +15,6 @@ with_nothing held stage name text c i = subst (λ (t : List ℕ). Compares held 
 
 pub without : (held : Option Files) (stage : Stage) (name text : List ℕ) (c : Comparer) → Compares held stage name (text ++ []) c → Compares held stage name text c
 without held stage name text c i = subst (λ (t : List ℕ). Compares held stage name t c) (append-nil text) i
-
--- where it compares, the shelf reads
-pub reading : (held : Option Files) (stage : Stage) (name : List ℕ) (c : Comparer) → Comparing held stage name c → IsReading held stage
-reading held stage name c (text, i) = (name, (length text + ahead c, i.reads))
 
 -- where nothing is left of what was read, the rest of the file was not read
 pub all_compared : (k p : ℕ) (text file chunk : List ℕ) → k ≡ 0 → file ≡ text ++ (take k (drop p chunk) ++ drop (length text + k) file) → file ≡ text ++ drop (length text + k) file
@@ -115,20 +111,6 @@ in_three text piece more i low =
     ∙ ap (λ (l : List ℕ). text ++ l)
     (sym (append_assoc (take i piece) (slice_index piece i ∷ drop (i + 1) piece) more)
     ∙ ap (λ (l : List ℕ). l ++ more) (ap (λ (l : List ℕ). take i piece ++ l) (sym (drop_more piece i 0 low)) ∙ take-append-drop i piece))
-
--- before the first byte
-pub at_beginning : (held : Option Files) (stage : Stage) (name : List ℕ) (c : Comparer) → c.place ≡ 0 → c.filled ≡ 0 → 0 < length c.chunk.items → c.line ≡ 1 → ReadsFrom held stage name 0 → Compares held stage name [] c
-at_beginning held stage name c first empty room line reads =
-    let none : ahead c ≡ 0 = omega (arith, first, empty) in
-    let place : 0 + ahead c ≡ 0 = omega (arith, none) in
-    record {
-      in_chunk = omega (arith, first);
-      in_room = omega (arith, empty);
-      room = room;
-      line = omega (arith, line);
-      reads = subst (λ (n : ℕ). ReadsFrom held stage name n) (sym place) reads;
-      begins = λ file h. ap₂ (λ (k m : ℕ). take k (drop c.place c.chunk.items) ++ drop m file) (sym none) (sym place);
-    }
 
 -- the byte at a place, whatever stands for one past the end
 pub byte_at : (xs : List ℕ) (i byte : ℕ) → i < length xs → byte ≡ get_or xs i byte → slice_index xs i ≡ byte

@@ -4,8 +4,9 @@ use Rattle.std.specs.Prelude.{int_lt}
 use Rattle.std.specs.List.{list_all}
 use Rattle.std.proofs.lemmas.Bool.{and_parts, and_from, le-leb}
 use Rattle.std.proofs.lemmas.Int.{ints}
-use Rattle.brace_balance.specs.Loads.{never_falls, rises, load, times, posts_hold, accepts, IsLeast}
-use Rattle.brace_balance.specs.Fillings.{filled, can_cut, least_number, IsProof}
+use Rattle.brace_cuts.specs.Space.{rises, can_cut, least as least_number}
+use Rattle.brace_balance.specs.Loads.{never_falls, load, times, posts_hold, accepts, IsLeast}
+use Rattle.brace_balance.specs.Fillings.{filled, IsProof}
 use Rattle.brace_balance.specs.declared.kinds.Proof.{Proof}
 use Rattle.brace_balance.specs.declared.kinds.Proof.TheVariants.{Empty, Stack, Posts}
 use Rattle.brace_balance.proofs.Filled.{filled_within, filled_rises, cuts_rise, filled_loads, filled_posts}

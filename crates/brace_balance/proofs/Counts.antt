@@ -16,9 +16,6 @@ eq_told a b e = grind (arith, Decides-int_eq a b, e)
 pub eq_holds : (a b : ℤ) → a ≡ b → int_eq a b ≡ true
 eq_holds a b e = grind (arith, Decides-int_eq a b, e)
 
-pub eq_not : (a b : ℤ) → (a ≡ b → ⊥) → int_eq a b ≡ false
-eq_not a b h = grind (arith, Decides-int_eq a b, h)
-
 pub le_same : (a : ℤ) → int_le a a ≡ true
 le_same a = grind (arith, ints)
 
@@ -27,9 +24,6 @@ le_on a b c h g = grind (arith, ints, h, g)
 
 pub le_both : (a b : ℤ) → int_le a b ≡ true → int_le b a ≡ true → a ≡ b
 le_both a b h g = grind (arith, ints, h, g)
-
-pub le_not : (a b : ℤ) → int_le a b ≡ false → int_le b a ≡ true
-le_not a b h = grind (arith, ints, h)
 
 pub lt_le : (a b : ℤ) → int_lt a b ≡ true → int_le a b ≡ true
 lt_le a b h = grind (arith, ints, h)

@@ -7,7 +7,8 @@ use Rattle.std.specs.Ordering.{int_eq}
 use Rattle.std.proofs.lemmas.Bool.{cases_Bool, and_parts, and_from, eqb-true, leb-true, le-leb, ne_eqb}
 use Rattle.std.proofs.lemmas.Bool.Decides.{nat_tests}
 use Rattle.std.proofs.lemmas.List.Sums.{count_by-le-length}
-use Rattle.brace_balance.specs.Loads.{never_falls, rises, strip, in_strip, load, between, posts_hold}
+use Rattle.brace_cuts.specs.Space.{rises, strip}
+use Rattle.brace_balance.specs.Loads.{never_falls, in_strip, load, between, posts_hold}
 use Rattle.brace_balance.specs.Fillings.{not_below, cut_at, filled, HasNoStack}
 use Rattle.brace_balance.proofs.Counts.{le_on, lt_le, not_le, lt_differ, count_yes, count_no, count_weaker, count_filtered, count_kept}
 use Rattle.brace_balance.proofs.Ordered.{twice_first, above_first, all_kept, rest_sorted, rest_begins, few_below, many_between, between_same}
@@ -173,13 +174,12 @@ filled_loads n k xs up short = greatest_within (in_strip (filled n k xs) xs) n
 -- what holds of some of the numbers holds of all
 hold_more : (m : ℕ) (xs ys posts : List ℤ) → ((p q : ℤ) → between p q ys ≤ between p q xs)
     → posts_hold m ys posts ≡ true → posts_hold m xs posts ≡ true
-hold_more m xs ys [] more h = refl
-hold_more m xs ys (p ∷ []) more h = refl
 hold_more m xs ys (p ∷ q ∷ posts) more h =
     let (here, later) = and_parts (nat_le m (between p q ys)) (posts_hold m ys (q ∷ posts)) h in
     and_from (nat_le m (between p q xs)) (posts_hold m xs (q ∷ posts))
     (le-leb m (between p q xs) (omega (arith, more p q, leb-true m (between p q ys) here)))
     (hold_more m xs ys (q ∷ posts) more later)
+hold_more m xs ys _ more h = refl
 
 -- where no number is there more than n times, the first numbers of strips filled with n rise, and
 -- more than n numbers are between each and the next

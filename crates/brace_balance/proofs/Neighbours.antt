@@ -1,17 +1,7 @@
 -- Rising numbers and posts, from a place on.
 use Rattle.std.proofs.Common.{◌≡◌, ◌∙◌, ℕ, zero, suc, ◌+◌, ◌-◌, ◌≤◌, ◌<◌, ℤ, true, false, ◌&&◌, List, [], ◌∷◌, length, get_or, drop, refl, sym, ap, subst, arith, nat_le}
 use Rattle.std.proofs.lemmas.Bool.{and_left, le-leb, lt-leb}
-use Rattle.brace_balance.specs.Loads.{never_falls, rises, between, posts_hold}
-
--- no number and one number rise
-pub rises_at_end : (cuts : List ℤ) (n : ℕ) → length cuts ≤ n + 1 → rises (drop n cuts) ≡ true
-rises_at_end [] zero short = refl
-rises_at_end [] (suc n) short = refl
-rises_at_end (c ∷ []) zero short = refl
-rises_at_end (c ∷ []) (suc zero) short = refl
-rises_at_end (c ∷ []) (suc (suc n)) short = refl
-rises_at_end (c ∷ b ∷ cuts) zero short = absurd (omega (arith, short))
-rises_at_end (c ∷ b ∷ cuts) (suc n) short = rises_at_end (b ∷ cuts) n (omega (arith, short))
+use Rattle.brace_balance.specs.Loads.{never_falls, between, posts_hold}
 
 -- no number and one number do not fall
 pub sorted_at_end : (xs : List ℤ) (n : ℕ) → length xs ≤ n + 1 → never_falls (drop n xs) ≡ true

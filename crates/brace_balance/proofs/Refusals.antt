@@ -5,7 +5,8 @@ use Rattle.std.specs.List.{range_with_len}
 use Rattle.std.specs.Ordering.{int_eq}
 use Rattle.std.proofs.lemmas.Bool.{and_parts, cases_lt, eqb-true, leb-true}
 use Rattle.std.proofs.lemmas.List.Sums.{count_by-le-length}
-use Rattle.brace_balance.specs.Loads.{rises, strip, in_strip, greatest, load, times, between, posts_hold, accepts, NoneIsLower}
+use Rattle.brace_cuts.specs.Space.{rises, strip}
+use Rattle.brace_balance.specs.Loads.{in_strip, greatest, load, times, between, posts_hold, accepts, NoneIsLower}
 use Rattle.brace_balance.specs.declared.kinds.Proof.{Proof}
 use Rattle.brace_balance.specs.declared.kinds.Proof.TheVariants.{Empty, Stack, Posts}
 use Rattle.brace_balance.proofs.Counts.{eq_told, le_on, count_weaker}

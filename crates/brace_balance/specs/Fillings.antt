@@ -1,5 +1,5 @@
 -- Strips filled from the left, and the one proof that goes with the least load.
-use Rattle.std.specs.Prelude.{◌≡◌, ◌≢◌, ℕ, zero, suc, ◌-◌, ◌<◌, ◌≤◌, ℤ, negsuc, int_le, int_lt, ◌≤ℤ◌, Bool, List, [], ◌∷◌, slice_get, Option, Some, None}
+use Rattle.std.specs.Prelude.{◌≡◌, ◌≢◌, ℕ, zero, suc, ◌-◌, ◌<◌, ◌≤◌, ℤ, int_le, ◌≤ℤ◌, List, [], ◌∷◌, slice_get, Option, Some, None}
 use Rattle.std.specs.List.{filter}
 use Rattle.brace_balance.specs.Loads.{times}
 use Rattle.brace_balance.specs.declared.kinds.Proof.{Proof}
@@ -41,11 +41,3 @@ IsProof xs strips n Empty = xs ≡ []
 IsProof xs strips n (Stack p) = (xs ≢ []) × IsLeastStack xs n p
 IsProof xs strips n (Posts posts) =
     (xs ≢ []) × HasNoStack xs n × (posts ≡ first_of_strips (n - 1) strips xs)
-
--- the least number of 64 bits
-abbrev pub least_number : ℤ
-least_number = negsuc 9223372036854775807
-
--- a number that may be a cut: some number of 64 bits is below it
-abbrev pub can_cut : ℤ → Bool
-can_cut c = int_lt least_number c

@@ -1,9 +1,10 @@
 -- Cuts divide the line into strips, and a number on a cut belongs to the strip on its higher side.
 -- The load of cuts over numbers, the least load, and what shows that no load is lower. Numbers are
 -- whole millionths.
-use Rattle.std.specs.Prelude.{◌≡◌, ℕ, ◌+◌, ◌<◌, ◌≤◌, max, nat_le, ◌==◌, ℤ, int_le, int_lt, Bool, true, ◌&&◌, IsTrue, List, [], ◌∷◌, length, map}
+use Rattle.std.specs.Prelude.{◌≡◌, ℕ, ◌+◌, ◌<◌, ◌≤◌, max, nat_le, ◌==◌, ℤ, int_le, Bool, true, ◌&&◌, IsTrue, List, [], ◌∷◌, length, map}
 use Rattle.std.specs.List.{count_by, range_with_len}
 use Rattle.std.specs.Ordering.{int_eq}
+use Rattle.brace_cuts.specs.Space.{rises, strip}
 use Rattle.brace_balance.specs.declared.kinds.Proof.{Proof}
 use Rattle.brace_balance.specs.declared.kinds.Proof.TheVariants.{Empty, Stack, Posts}
 
@@ -12,16 +13,6 @@ abbrev pub never_falls : List ℤ → Bool
 never_falls [] = true
 never_falls (x ∷ []) = true
 never_falls (x ∷ y ∷ xs) = int_le x y && never_falls (y ∷ xs)
-
--- each number is below the next
-abbrev pub rises : List ℤ → Bool
-rises [] = true
-rises (c ∷ []) = true
-rises (c ∷ d ∷ cuts) = int_lt c d && rises (d ∷ cuts)
-
--- the strip that a number is in: how many cuts it is not below
-abbrev pub strip : List ℤ → ℤ → ℕ
-strip cuts v = count_by (λ c. int_le c v) cuts
 
 -- how many of the numbers are in strip number i
 abbrev pub in_strip : List ℤ → List ℤ → ℕ → ℕ

@@ -1,7 +1,8 @@
 ghost use Rattle.std.specs.Prelude.{◌≡◌, ◌-◌, ◌<◌, ◌≤◌, ◌^◌, IfOk, IfSome, IsTrue, length, slice_get, int_le};
 ghost use Rattle.std.specs.List.{list_all};
-ghost use Rattle.brace_balance.specs.Loads.{never_falls, rises, load, accepts, IsLeast};
-ghost use Rattle.brace_balance.specs.Fillings.{filled, can_cut, least_number, IsProof};
+ghost use Rattle.brace_cuts.specs.Space.{rises, can_cut, least as least_number};
+ghost use Rattle.brace_balance.specs.Loads.{never_falls, load, accepts, IsLeast};
+ghost use Rattle.brace_balance.specs.Fillings.{filled, IsProof};
 
 use crate::fill::{fill, posts};
 use crate::search::least_load;

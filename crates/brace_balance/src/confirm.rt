@@ -1,8 +1,9 @@
 //! Whether a proof shows that no load is lower.
 ghost use Rattle.std.specs.Prelude.{◌≡◌, ◌^◌, ◌≤◌, IsTrue, length};
-ghost use Rattle.brace_balance.specs.Loads.{never_falls, rises, times, between, posts_hold, accepts, NoneIsLower};
+ghost use Rattle.brace_balance.specs.Loads.{never_falls, times, between, posts_hold, accepts, NoneIsLower};
 
 use crate::Proof;
+use brace_cuts::rises;
 
 /// Whether `proof` shows that no cuts into `strips` strips have a load below `load`: there are no
 /// numbers and it is 0; so many of them are one number; or between each of `strips` + 1 rising
@@ -41,18 +42,6 @@ fn between(xs: &[i64], p: i64, q: i64) -> usize
     ensures { result ≡ between p q xs.now }
 {
     xs.iter().filter(|v| p <= **v && **v <= q).count()
-}
-
-/// Whether each number is below the next.
-fn rises(posts: &[i64]) -> bool
-    ensures { result ≡ rises posts.now }
-{
-    for i in 1..posts.len() {
-        if posts[i - 1] >= posts[i] {
-            return false;
-        }
-    }
-    true
 }
 
 /// Whether between each post and the next there are at least `n` of the numbers.

@@ -131,21 +131,9 @@ pub record IsStrict (op : BinOp) : Type 0 where
   pub is : (site : Option ℕ) (a b : Worth) → binary op site a b ≡ with_value a (λ x. with_value b (strict op site x))
 
 pub strictly : (op : BinOp) → op ≢ bin.And → op ≢ bin.Or → IsStrict op
-strictly bin.Add p q = record { is = λ site a b. refl }
-strictly bin.Sub p q = record { is = λ site a b. refl }
-strictly bin.Mul p q = record { is = λ site a b. refl }
-strictly bin.Div p q = record { is = λ site a b. refl }
-strictly bin.Rem p q = record { is = λ site a b. refl }
-strictly bin.Lt p q = record { is = λ site a b. refl }
-strictly bin.Le p q = record { is = λ site a b. refl }
-strictly bin.Gt p q = record { is = λ site a b. refl }
-strictly bin.Ge p q = record { is = λ site a b. refl }
-strictly bin.Eq p q = record { is = λ site a b. refl }
-strictly bin.Ne p q = record { is = λ site a b. refl }
-strictly bin.Min p q = record { is = λ site a b. refl }
-strictly bin.Max p q = record { is = λ site a b. refl }
 strictly bin.And p q = absurd (p refl)
 strictly bin.Or p q = absurd (q refl)
+strictly _ p q = record { is = λ site a b. refl }
 
 -- ---- an operand
 

@@ -1,5 +1,5 @@
 -- What holds word after word.
-use Rattle.std.proofs.Common.{◌≡◌, ◌∙◌, sym, ap, subst, arith, ℕ, ◌+◌, ◌<◌, ◌≤◌, ℤ, pos, Bool, false, List, [], ◌∷◌, ◌++◌, length, slice_index_or, ⊎_elim}
+use Rattle.std.proofs.Common.{◌≡◌, ◌∙◌, sym, ap, subst, arith, ℕ, ◌+◌, ◌<◌, ◌≤◌, ℤ, pos, to_z, of_z, w64, Bool, false, List, [], ◌∷◌, ◌++◌, length, slice_index_or, ⊎_elim}
 use Rattle.std.proofs.lemmas.Bool.{cases_lt}
 use Rattle.std.proofs.lemmas.List.{get_or_append_left, get_or_at}
 
@@ -27,3 +27,31 @@ module _ (Q : ℤ → ℤ → ℤ → Bool → Type 0) (a b : ℕ → ℤ) where
       (subst (λ (z : ℤ). Q z y made fails) first now)) in
       subst (Made after) here (subst (λ (w : ℤ). Q (a n) (b n) w false) (sym last) told))
       (cases_lt k n)
+
+-- ---- words at rows
+
+-- the word at the row of a place
+abbrev pub word_at : List ℕ → List ℤ → ℕ → ℤ
+word_at rows column k = slice_index_or column (slice_index_or rows k 0) (pos 0)
+
+-- so many words are those that an operation makes of words at rows
+abbrev pub AreMade : (ℤ → ℤ → ℤ × Bool → Type 0) → List ℕ → List ℤ → List ℕ → List ℤ → List ℤ
+    → ℕ → Type 0
+AreMade Q rows column others other words n = (k : ℕ) → k < n
+    → Q (word_at rows column k) (word_at others other k) (slice_index_or words k (pos 0), false)
+
+-- one word more
+pub row_made : (n : ℕ) (Q : ℤ → ℤ → ℤ × Bool → Type 0) (rows others : List ℕ)
+    (column other words after : List ℤ) (made word : ℤ) (fails : Bool)
+    → length words ≡ n → after ≡ words ++ word ∷ [] → AreMade Q rows column others other words n
+    → Q (to_z w64 (of_z w64 (word_at rows column n))) (to_z w64 (of_z w64 (word_at others other n)))
+    (made, fails)
+    → to_z w64 (of_z w64 (word_at rows column n)) ≡ word_at rows column n
+    → to_z w64 (of_z w64 (word_at others other n)) ≡ word_at others other n
+    → word ≡ made → fails ≡ false
+    → AreMade Q rows column others other after (n + 1)
+row_made n Q rows others column other words after made word fails long is before now first
+    second =
+    made_last (λ x y w f. Q x y (w, f)) (word_at rows column) (word_at others other) words after n
+    (to_z w64 (of_z w64 (word_at rows column n))) (to_z w64 (of_z w64 (word_at others other n)))
+    made word fails long is before now first second

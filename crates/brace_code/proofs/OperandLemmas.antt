@@ -7,7 +7,7 @@ use Rattle.brace_model.specs.declared.program.Ty.{Ty}
 use Rattle.brace_model.specs.declared.program.BinOp.{BinOp}
 use Rattle.brace_model.specs.Value.{Scope, total_read}
 use Rattle.brace_code.specs.declared.code.Operand.{Operand}
-use Rattle.brace_code.specs.declared.code.Operand.TheVariants.{Word, Field, Total, Local, Rand}
+use Rattle.brace_code.specs.declared.code.Operand.TheVariants.{Word, Total}
 use Rattle.brace_code.specs.declared.lane.Lane.{Lane}
 use Rattle.brace_code.specs.declared.lane.Frame.{Frame}
 use Rattle.brace_code.specs.declared.lane.Draws.{Draws}
@@ -28,11 +28,8 @@ draws_more draws k site d h = rw (add-one, drop-cons draws k d) refl
 pub plain_operand : (o : Operand)
     → ((effect : ℕ) (t : Ty) (site : Option ℕ) → o ≢ Total effect t site)
     → (scope : Scope) → operand_word scope o ≡ Ok (number_in scope o)
-plain_operand (Word n) plain scope = refl
-plain_operand (Field who i) plain scope = refl
-plain_operand (Local n) plain scope = refl
-plain_operand (Rand site) plain scope = refl
 plain_operand (Total effect t site) plain scope = absurd (plain effect t site refl)
+plain_operand _ plain scope = refl
 
 module _ (frame : Frame) (o : Operand) (lanes : List Lane) (words : List ℤ) where
   pub word_words : (n : ℤ) → o ≡ Word n → words ≡ replicate (length lanes) n

@@ -91,9 +91,8 @@ only_true true s t e = refl
 only_true false s t e = absurd (cc)
 
 like_number : (a : Value) (n : ℤ) → is_number (type_of_value a) ≡ true → number (like a n) ≡ n
-like_number (Int m) n e = refl
-like_number (Fixed m) n e = refl
 like_number (Flag b) n e = absurd (cc)
+like_number _ n e = refl
 
 -- an exact result as a value has that result as its word
 made_is : (f : ℤ → Value) (site : Option ℕ) (r : Result ℤ Kind) → ((n : ℤ) → number (f n) ≡ n)
@@ -108,17 +107,15 @@ number_like a t site r e = made_is (like a) site r (λ n. like_number a n (only_
 rem_like : (a : Value) (t : Ty) (site : Option ℕ) (r : Result ℤ Kind) → only (same_type (type_of_value a) ty.Int) ty.Int ≡ Some t
     → made_word (unwrap_or site 0) r ≡ word_of (made (like a) site r)
 rem_like (Int m) t site r e = made_is (like (Int m)) site r (λ n. refl)
-rem_like (Fixed m) t site r e = absurd (cc)
-rem_like (Flag b) t site r e = absurd (cc)
+rem_like _ t site r e = absurd (cc)
 
 pub unary_is : (op : UnOp) (site : Option ℕ) (a : Value) (t : Ty) → unary_type op (type_of_value a) ≡ Some t
     → made_word (unwrap_or site 0) (unary_word op (number a)) ≡ word_of (unary op site a)
-unary_is un.Neg site a t e = number_like a t site _ e
 unary_is un.Not site a t e = refl
-unary_is un.Abs site a t e = number_like a t site _ e
 unary_is un.Sqrt site a t e = made_is Fixed site _ (λ n. refl)
 unary_is un.ToFixed site a t e = made_is Fixed site _ (λ n. refl)
 unary_is un.Trunc site a t e = refl
+unary_is _ site a t e = number_like a t site _ e
 
 product_is : (a b : Value) (t : Ty) (site : Option ℕ) → operation_type bin.Mul (type_of_value a) ≡ Some t
     → made_word (unwrap_or site 0) (binary_word bin.Mul (type_of_value a) (number a) (number b)) ≡ word_of (strict bin.Mul site a b)
@@ -143,30 +140,20 @@ strict_is bin.Sub site a b t e = number_like a t site _ e
 strict_is bin.Mul site a b t e = product_is a b t site e
 strict_is bin.Div site a b t e = quotient_is a b t site e
 strict_is bin.Rem site a b t e = rem_like a t site _ e
-strict_is bin.Lt site a b t e = refl
-strict_is bin.Le site a b t e = refl
-strict_is bin.Gt site a b t e = refl
-strict_is bin.Ge site a b t e = refl
-strict_is bin.Eq site a b t e = refl
-strict_is bin.Ne site a b t e = refl
 strict_is bin.Min site a b t e = ok_like a _ t e
 strict_is bin.Max site a b t e = ok_like a _ t e
-strict_is bin.And site a b t e = refl
-strict_is bin.Or site a b t e = refl
+strict_is _ site a b t e = refl
 
 -- a condition chooses by its word
 pub choose_is : (x : Value) (a b : Worth) → type_of_value x ≡ ty.Bool → choose_word (number x) (word_of a) (word_of b) ≡ word_of (choose x a b)
-choose_is (Int n) a b e = absurd (cc)
-choose_is (Fixed n) a b e = absurd (cc)
 choose_is (Flag true) a b e = refl
 choose_is (Flag false) a b e = refl
+choose_is _ a b e = absurd (cc)
 
 -- a value is the one of its type that has its word
 value_is : (v : Value) → typed (type_of_value v) (number v) ≡ v
-value_is (Int n) = refl
-value_is (Fixed n) = refl
 value_is (Flag true) = refl
-value_is (Flag false) = refl
+value_is _ = refl
 
 -- a word read as a value of the type that the value has
 pub worth_is : (w : Worth) (t : Ty) → ((v : Value) → w ≡ Ok v → type_of_value v ≡ t) → value_of t (word_of w) ≡ w

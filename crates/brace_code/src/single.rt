@@ -1,6 +1,6 @@
 ghost use Rattle.std.specs.Prelude.{◌≡◌, ◌<◌, ◌≤◌, ◌-◌, ◌^◌, ℕ, Option, [], ◌∷◌, length, Ok, Err, OnOk};
 ghost use Rattle.brace_model.specs.Scopes.{scope_of};
-ghost use Rattle.brace_model.specs.Value.{agent_of, total_read, typed};
+ghost use Rattle.brace_model.specs.Value.{total_read, typed};
 ghost use Rattle.brace_code.specs.Codes.{depth_of, gives};
 ghost use Rattle.brace_code.specs.inner.Words.{word_of, made_word, with_word, binary_word, choose_word, operand_word, source_word};
 ghost use Rattle.brace_code.specs.inner.Runs.{deed, outcome, ended, pushed, stack_of};
@@ -9,19 +9,8 @@ use crate::code::{Code, Instr, Operand, Source};
 use crate::operations::{binary, flag, unary};
 use crate::stack::Stack;
 use brace_draw::Drawer;
-use brace_model::{Agent, BinOp, Env, Stop, Ty, Value, Who, number, value_at};
+use brace_model::{BinOp, Env, Stop, Ty, Value, agent_of, number, value_at};
 use brace_num::{Kind, List};
-
-/// The agent that a name stands for.
-fn agent_of<'a>(env: &Env<'a>, drawer: &Drawer, who: Who) -> &'a Agent
-    ensures { result.now ≡ agent_of (scope_of env.now drawer.now) who }
-{
-    match who {
-        Who::This => env.this,
-        Who::Outer => env.outer.unwrap_or(env.this),
-        Who::Inner => env.inner.unwrap_or(env.this),
-    }
-}
 
 /// The word of a total of a type.
 fn total_word(ty: Ty, n: i64) -> i64

@@ -171,10 +171,6 @@ tail-total t f x ys s below is =
 
 -- rising lists of entries
 
-pub rising-tail : (x : Entry) (xs : List Entry) → IsRising (x ∷ xs) → IsRising xs
-unfolding IsStrictlySortedBy
-rising-tail x xs h = h.1
-
 pub rising-below : (x : Entry) (xs : List Entry) → IsRising (x ∷ xs) → IsBelow x xs
 unfolding IsStrictlySortedBy
 rising-below x xs h = h.0

@@ -1,5 +1,5 @@
 -- Joined totals: regrouped, reordered, and as the totals of lists.
-use Rattle.std.proofs.Common.{◌≡◌, ◌∙◌, refl, sym, ap, subst, ℕ, ◌+◌, ◌*◌, ◌^◌, ◌≤◌, ℤ, pos, ◌+ℤ◌, unsigned_abs, List, [], ◌∷◌, ◌++◌, length, true, false, arith}
+use Rattle.std.proofs.Common.{◌≡◌, ◌∙◌, refl, sym, ap, subst, ℕ, ◌+◌, ◌*◌, ◌^◌, ◌≤◌, ℤ, pos, ◌+ℤ◌, unsigned_abs, true, List, [], ◌∷◌, ◌++◌, length, arith}
 use Rattle.std.specs.Ordering.{int_eq}
 use Rattle.std.specs.Int.{w64}
 use Rattle.std.specs.Int.RustNames.{FitsSigned}
@@ -24,24 +24,17 @@ use Rattle.brace_comb.proofs.Permutations.{fold-IsPermutation}
 merged-assoc : (comb : Comb) (a b c : ℤ)
     → merged comb (merged comb a b) c ≡ merged comb a (merged comb b c)
 merged-assoc Sum a b c = omega (arith, ints)
-merged-assoc Min a b c = omega (arith, ints, clamps)
-merged-assoc Max a b c = omega (arith, ints, clamps)
 merged-assoc Count a b c = omega (arith, ints)
-merged-assoc Or a b c = omega (arith, ints, clamps)
+merged-assoc _ a b c = omega (arith, ints, clamps)
 
 merged-comm : (comb : Comb) (a b : ℤ) → merged comb a b ≡ merged comb b a
 merged-comm Sum a b = omega (arith, ints)
-merged-comm Min a b = omega (arith, ints, clamps)
-merged-comm Max a b = omega (arith, ints, clamps)
 merged-comm Count a b = omega (arith, ints)
-merged-comm Or a b = omega (arith, ints, clamps)
+merged-comm _ a b = omega (arith, ints, clamps)
 
 joined-merged : (comb : Comb) (t : ℤ) (v : Value) → joined comb t v ≡ merged comb t (brought comb v)
 joined-merged Sum t v = refl
-joined-merged Min t v = refl
-joined-merged Max t v = refl
-joined-merged Count t v = refl
-joined-merged Or t v = refl
+joined-merged _ t v = refl
 
 -- a value may be joined before or after two numbers are merged
 through : (comb : Comb) (a b : ℤ) (v : Value)
@@ -63,7 +56,7 @@ merged-turn comb a b c =
     merged-assoc comb a b c ∙ ap (merged comb a) (merged-comm comb b c) ∙ sym (merged-assoc comb a c b)
 
 -- two values may change places
-turn : (comb : Comb) (t : ℤ) (x y : Value) → joined comb (joined comb t x) y ≡ joined comb (joined comb t y) x
+pub turn : (comb : Comb) (t : ℤ) (x y : Value) → joined comb (joined comb t x) y ≡ joined comb (joined comb t y) x
 turn comb t x y =
     let a = joined-merged comb t x in
     let b = joined-merged comb t y in
@@ -74,10 +67,7 @@ turn comb t x y =
 
 merged-identities : (comb : Comb) → merged comb (identity comb) (identity comb) ≡ identity comb
 merged-identities Sum = refl
-merged-identities Min = refl
-merged-identities Max = refl
-merged-identities Count = refl
-merged-identities Or = refl
+merged-identities _ = refl
 
 -- the total of values is as it was after the total of none is joined
 total_of-identity : (comb : Comb) (vs : List Value)
@@ -137,14 +127,13 @@ join-turn a b c =
 
 pub fold_total : (comb : Comb) (values : List Value) (t : Tally) → IsFold comb values t
     → t ≡ tally_of comb values
-fold_total comb _ _ none = refl
-fold_total comb _ _ (one v) = refl
 fold_total comb _ _ (both xs ys a b f g) =
     ap (λ t. join t b) (fold_total comb xs a f)
     ∙ ap (join (tally_of comb xs)) (fold_total comb ys b g)
     ∙ join-append comb xs ys
 fold_total comb _ _ (moved xs ys t p f) =
     fold_total comb xs t f ∙ tally_of-IsPermutation comb xs ys p
+fold_total comb _ _ _ = refl
 
 abbrev AreOf64Bits : List Value → Type 0
 AreOf64Bits = All (λ v. FitsSigned w64 (number v))
@@ -176,12 +165,8 @@ remade Count n k = total.Count k
 remade Or n k = total.Any (int_eq n (pos 1)) k
 
 remade-tally : (a : Total) → remade (tally a).comb (tally a).number (tally a).count ≡ a
-remade-tally (total.Sum n k) = refl
-remade-tally (total.Least n k) = refl
-remade-tally (total.Greatest n k) = refl
-remade-tally (total.Count k) = refl
 remade-tally (total.Any true k) = refl
-remade-tally (total.Any false k) = refl
+remade-tally _ = refl
 
 pub as_seen : (a b : Total) → tally a ≡ tally b → a ≡ b
 as_seen a b e = sym (remade-tally a) ∙ ap (λ s. remade s.comb s.number s.count) e ∙ remade-tally b

@@ -17,9 +17,6 @@ pub record Walk (given m xs ys : List Entry) : Type 0 where
   pub totals : (t f : ℕ) → total_at t f (m ++ (xs ++ ys)) ≡ total_at t f given
   pub joins : CanMerge xs ys
 
-pub start : (xs ys : List Entry) → IsRising xs → IsRising ys → CanMerge xs ys → Walk (xs ++ ys) [] xs ys
-start xs ys left right joins = record { left = left; right = right; totals = λ t f. refl; joins = joins }
-
 -- one more entry at the end of what is merged
 snoc : (m xs : List Entry) (x : Entry) → (m ++ x ∷ []) ++ xs ≡ m ++ x ∷ xs
 snoc m xs x = append_assoc m (x ∷ []) xs
@@ -136,9 +133,6 @@ end_left given m xs w = record {
   totals = λ t f. ap (λ l. total_at t f (m ++ l)) (sym (append-nil xs)) ∙ w.totals t f;
 }
 
-pub end_right : (given m ys : List Entry) → Walk given m [] ys → IsPartialOf given (m ++ ys)
-end_right given m ys w = record { rising = w.right; totals = w.totals }
-
 -- one entry on its way into a rising list, at its rank
 begin : (xs : List Entry) (at : ℕ) (e : Entry) → IsRising xs → IsRank xs e at → CanMerge xs (e ∷ [])
     → Walk (xs ++ e ∷ []) (take at xs) (drop at xs) (e ∷ [])
@@ -175,14 +169,12 @@ module _ (xs : List Entry) (at : ℕ) (z e : Entry) (rising : IsRising xs) (rank
 
 -- what is not before an entry, nor of its place, is behind it
 greater : (o : Ordering) → is_lt o ≡ false → is_eq o ≡ false → o ≡ Greater
-greater Less a b = absurd (cc)
-greater Equal a b = absurd (cc)
 greater Greater a b = refl
+greater _ a b = absurd (cc)
 
 is_less : (o : Ordering) → is_lt o ≡ true → o ≡ Less
 is_less Less h = refl
-is_less Equal h = absurd (cc)
-is_less Greater h = absurd (cc)
+is_less _ h = absurd (cc)
 
 pub put_at : (xs : List Entry) (at : ℕ) (e : Entry) → IsRising xs → IsRank xs e at
     → CanMerge xs (e ∷ []) → ((z : Entry) → at < length xs → z ≡ get_or xs at z → is_eq (by_place z e) ≡ false)
@@ -237,17 +229,6 @@ ranked_at e xs at within point = record {
 
 -- what all calls say of a list that was given more
 
-pub more_given : (given old more new : List Entry) → IsPartialOf (old ++ more) new → IsPartialOf given old
-    → IsPartialOf (given ++ more) new
-more_given given old more new p q = record {
-  rising = p.rising;
-  totals = λ t f.
-      p.totals t f
-      ∙ total-append t f None old more
-      ∙ ap (λ s. total_from t f s more) (q.totals t f)
-      ∙ sym (total-append t f None given more);
-}
-
 pub more_joined : (old more new : List Entry) → IsRising more → IsPartialOf (old ++ more) new
     → (t f : ℕ) → total_at t f new ≡ both (total_at t f old) (total_at t f more)
 more_joined old more new rising p t f =
@@ -264,6 +245,5 @@ unfolding IsStrictlySortedBy
 rising-nil = tt
 
 pub is_equal : (o : Ordering) → is_eq o ≡ true → o ≡ Equal
-is_equal Less h = absurd (cc)
 is_equal Equal h = refl
-is_equal Greater h = absurd (cc)
+is_equal _ h = absurd (cc)

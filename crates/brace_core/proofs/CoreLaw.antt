@@ -59,13 +59,6 @@ answered s events lawful run p q =
     let (low, high) = in_step 0 s.actors s.steps (lawful_steps s lawful) p q (x.place p) in
     omega (arith, ap length (put_is s events lawful run p q), ap length (taken_is s events lawful run q p))
 
--- what an actor took from another it has answered
-puts_before : OnRuns (λ s events. (p q : ℕ) → length (taken_from s events q p) ≤ length (put_on s events p q))
-puts_before s events lawful run p q =
-    let x : State = end_of s events in
-    let (low, high) = in_step 0 s.actors s.steps (lawful_steps s lawful) p q (x.place p) in
-    omega (arith, ap length (put_is s events lawful run p q), ap length (taken_is s events lawful run q p))
-
 pub two_in_flight : OnRuns (λ s events. (p q : ℕ) → length (in_flight s events p q) ≤ 2)
 two_in_flight s events lawful run p q =
     let here : length (put_on s events p q) ≤ length (taken_from s events q p) + 1 = answered s events lawful run p q in

@@ -148,12 +148,6 @@ front_end s events lawful run n within = let (is, end, made) = run_in s n openin
 made_alike : OnRuns (λ s events. (n : ℕ) → IsWithin s n (end_of s events) → turns_made (front s n) opening events ≡ turns_made s opening events)
 made_alike s events lawful run n within = let (is, end, made) = run_in s n opening events run within in made
 
-pub put_alike : OnRuns (λ s events. (n : ℕ) → IsWithin s n (end_of s events) → (p q : ℕ) → put_on (front s n) events p q ≡ put_on s events p q)
-put_alike s events lawful run n within p q = ap (λ ts. filter (is_on p q) (names_put ts)) (made_alike s events lawful run n within)
-
-pub taken_alike : OnRuns (λ s events. (n : ℕ) → IsWithin s n (end_of s events) → (p q : ℕ) → taken_from (front s n) events p q ≡ taken_from s events p q)
-taken_alike s events lawful run n within p q = ap (λ ts. filter (is_on p q) (names_taken ts)) (made_alike s events lawful run n within)
-
 done_alike : (s : Schedule) (events : List ℕ) → IsLawful s → IsRun s events → (n : ℕ) → IsWithin s n (end_of s events) → AllDone (front s n) (end_of s events) → AllDone (front s n) (end_of (front s n) events)
 done_alike s events lawful run n within done = subst (AllDone (front s n)) (sym (front_end s events lawful run n within)) done
 

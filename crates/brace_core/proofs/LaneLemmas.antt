@@ -80,9 +80,6 @@ module _ {F S : Type 0} (schedule : S → Schedule) (right : S → Name → F �
       let back : puts_of v name.to name.from ≤ takes_of v name.from name.to + 1 = sound.answered name.to name.from in
       omega arith
 
-  pub take_counts : (n : ℕ) → IsNext (schedule v.setting) name n → here.taken ≤ n → here.taken ≤ length (lane (schedule v.setting) name.from name.to)
-  take_counts n is l = let low : n < length (lane (schedule v.setting) name.from name.to) = slice_get_within _ n name is in omega arith
-
   module _ (piece : F) (next : IsNext (schedule v.setting) name (puts_of v name.from name.to)) (answered : puts_of v name.from name.to ≡ takes_of v name.to name.from) (fits : right v.setting name piece) where
     abbrev put : OnLane F
     put = record here { pieces = here.pieces ++ piece ∷ [] }

@@ -2,7 +2,7 @@
 use Rattle.std.proofs.Common.{◌≡◌, ℕ, zero, suc, ◌+◌, ◌<◌, ◌≤◌, Bool, true, false, ◌-◌, cond, ◌==◌, ◌⊎◌, List, [], ◌∷◌, ◌++◌, map, length, take, drop, get_or, refl, sym, ap, ◌∙◌, subst, arith, inl, inr}
 use Rattle.std.specs.List.{filter, range_with_len, All}
 use Rattle.std.proofs.lemmas.Bool.{ne_eqb, eq-eqb, cases_eq, cases_Bool, cond-true, cond-false}
-use Rattle.std.proofs.lemmas.List.{append_assoc, take-append-drop, take_at}
+use Rattle.std.proofs.lemmas.List.{take-append-drop, take_at}
 use Rattle.std.proofs.lemmas.List.Elements.{filter-append, filter_passes, All-filter}
 use Rattle.std.proofs.lemmas.List.FromFn.{get_or-range_with_len, length-range_with_len}
 
@@ -12,9 +12,6 @@ IsFront {A} xs ys = (rest : List A) × (ys ≡ xs ++ rest)
 
 pub front_takes : {A : Type 0} (xs ys : List A) → IsFront xs ys → xs ≡ take (length xs) ys
 front_takes xs ys (rest, e) = sym (ap (take (length xs)) e ∙ take_at xs rest (length xs) refl)
-
-pub front_longer : {A : Type 0} (xs ys zs : List A) → IsFront (xs ++ ys) zs → IsFront xs zs
-front_longer xs ys zs (rest, e) = (ys ++ rest, e ∙ append_assoc xs ys rest)
 
 pub take_is_front : {A : Type 0} (a : ℕ) (xs : List A) → IsFront (take a xs) xs
 take_is_front a xs = (drop a xs, sym (take-append-drop a xs))

@@ -6,7 +6,7 @@ use Rattle.std.proofs.lemmas.List.{get_or-set_same, get_or-set_other, length-map
 use Rattle.std.proofs.lemmas.Nat.{mod-mul-add}
 use Rattle.brace_num.specs.Generator.{following}
 use Rattle.brace_core.specs.declared.name.Turn.{Turn}
-use Rattle.brace_core.specs.declared.name.Turn.TheVariants.{Put, Take, Work, Done}
+use Rattle.brace_core.specs.declared.name.Turn.TheVariants.{Take, Done}
 use Rattle.brace_core.specs.declared.turn.Went.{Went}
 use Rattle.brace_core.specs.declared.turn.Went.TheVariants.{On, Nowhere, Over}
 use Rattle.brace_core.specs.Schedule.{Schedule, IsLawful, front, lane, turns, turn_at}
@@ -70,13 +70,11 @@ module _ {F S : Type 0} (s : Schedule) (lawful : IsLawful s) (order : ℕ) (firs
   turn_now p low = ap (turn_at s p) (sym (has.stands.places p low))
 
   ready_is : (p : ℕ) (t : Turn) → next s x p ≡ t → is_ready x.flight t ≡ can_make v t
-  ready_is p (Put n) is = refl
   ready_is p (Take n) is =
       take_is_found s has.events lawful run p n is
       ∙ ap (λ k. nat_lt k (length (put_on s has.events n.from n.to))) (sym (has.stands.taken n.from n.to))
       ∙ ap (nat_lt (takes_of v n.from n.to)) (sym (has.stands.put n.from n.to))
-  ready_is p Work is = refl
-  ready_is p Done is = refl
+  ready_is p _ is = refl
 
   pub enabled_is : (p : ℕ) → p < s.actors → is_enabled s x p ≡ can_make v (turn p)
   enabled_is p low =

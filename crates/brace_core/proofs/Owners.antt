@@ -51,10 +51,8 @@ done_past p ts a own e = elim (cases_lt a (length ts)) [
 ]
   where
     not_done : (t : Turn) → t ≡ Done → IsOwn p t → ⊥
-    not_done (Put n) e own = absurd cc
-    not_done (Take n) e own = absurd cc
-    not_done Work e own = absurd cc
     not_done Done e own = own
+    not_done _ e own = absurd cc
 
 pub left_before : (ts : List Turn) (a : ℕ) → (get_or ts a Done ≡ Done → ⊥) → a < length ts
 left_before ts a h = elim (cases_lt a (length ts)) [ inl l ↦ l | inr past ↦ absurd (h (get_or_past ts a Done past)) ]
@@ -62,17 +60,13 @@ left_before ts a h = elim (cases_lt a (length ts)) [ inl l ↦ l | inr past ↦ 
 -- a turn of e puts nothing from another actor, and takes nothing to another
 pub puts_no_other : (e p q : ℕ) (t : Turn) → IsOwn e t → (p ≡ e → ⊥) → filter (is_on p q) (names_put (t ∷ [])) ≡ []
 puts_no_other e p q (Put n) own other = ap (λ v. cond (v && (n.to == q)) (n ∷ []) []) (ne_eqb n.from p (λ h. other (sym h ∙ own)))
-puts_no_other e p q (Take n) own other = refl
-puts_no_other e p q Work own other = refl
-puts_no_other e p q Done own other = refl
+puts_no_other e p q _ own other = refl
 
 pub takes_no_other : (e p q : ℕ) (t : Turn) → IsOwn e t → (q ≡ e → ⊥) → filter (is_on p q) (names_taken (t ∷ [])) ≡ []
-takes_no_other e p q (Put n) own other = refl
 takes_no_other e p q (Take n) own other =
     ap (λ v. cond ((n.from == p) && v) (n ∷ []) []) (ne_eqb n.to q (λ h. other (sym h ∙ own))) ∙ nothing (n.from == p)
   where
     nothing : (v : Bool) → cond (v && false) (n ∷ []) [] ≡ []
     nothing true = refl
     nothing false = refl
-takes_no_other e p q Work own other = refl
-takes_no_other e p q Done own other = refl
+takes_no_other e p q _ own other = refl

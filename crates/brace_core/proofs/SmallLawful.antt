@@ -12,11 +12,9 @@ shows_lawful : IsLawfulStep 3 shows
 shows_lawful = lawful_both 3 0 2 _ (lit< tt) (lit< tt) (λ e. omega arith) refl (lawful_both 3 1 2 [] (lit< tt) (lit< tt) (λ e. omega arith) refl (lawful_empty 3))
 
 pub small_lawful : IsLawful small
-small_lawful zero d l = parts_lawful
-small_lawful (suc zero) d l = parts_lawful
-small_lawful (suc (suc zero)) d l = parts_lawful
 small_lawful (suc (suc (suc zero))) d l = shows_lawful
 small_lawful (suc (suc (suc (suc k)))) d l = absurd (omega arith)
+small_lawful _ d l = parts_lawful
 
 -- the turns in the first steps, of each part and of the publisher
 pub part_turns : (n p : ℕ) → n < 4 → p < 3 → (p ≡ 2 → ⊥) → take (3 * n) (turns small p) ≡ turns (front small n) p
@@ -33,11 +31,8 @@ part_turns n (suc (suc zero)) l m other = absurd (other refl)
 part_turns n (suc (suc (suc p))) l m other = absurd (omega (arith, m))
 
 show_turns : (n : ℕ) → n < 4 → take (1 * n) (turns small 2) ≡ turns (front small n) 2
-show_turns zero l = refl
-show_turns (suc zero) l = refl
-show_turns (suc (suc zero)) l = refl
-show_turns (suc (suc (suc zero))) l = refl
 show_turns (suc (suc (suc (suc n)))) l = absurd (omega (arith, l))
+show_turns _ l = refl
 
 pub publisher_turns : (n p : ℕ) → n < 4 → p ≡ 2 → take (1 * n) (turns small p) ≡ turns (front small n) p
 publisher_turns n p l is = subst (λ q. take (1 * n) (turns small q) ≡ turns (front small n) q) (sym is) (show_turns n l)

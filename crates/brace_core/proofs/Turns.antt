@@ -29,8 +29,7 @@ names_taken-append (Done ∷ xs) ys = names_taken-append xs ys
 abbrev pub is_with : ℕ → ℕ → Turn → Bool
 is_with p q (Put n) = is_on p q n
 is_with p q (Take n) = is_on q p n
-is_with p q Work = false
-is_with p q Done = false
+is_with p q _ = false
 
 pub put_with : (p q : ℕ) (ts : List Turn) → filter (is_on p q) (names_put ts) ≡ names_put (filter (is_with p q) ts)
 put_with p q [] = refl
@@ -140,9 +139,8 @@ abbrev pub IsInStep : List Turn → Type 0
 IsInStep ts = (length (names_taken ts) ≤ length (names_put ts)) × (length (names_put ts) ≤ length (names_taken ts) + 1)
 
 more_in_step : (n m : Name) (ts : List Turn) → ((i : ℕ) → IsInStep (take i ts)) → (i : ℕ) → IsInStep (take i (Put n ∷ Take m ∷ ts))
-more_in_step n m ts each zero = (omega arith, omega arith)
-more_in_step n m ts each (suc zero) = (omega arith, omega arith)
 more_in_step n m ts each (suc (suc i)) = let (low, high) = each i in (omega arith, omega arith)
+more_in_step n m ts each _ = (omega arith, omega arith)
 
 pub exchanges_in_step : (k : ℕ) (steps : List (List Pair)) (p q i : ℕ) → IsInStep (take i (exchanges k steps p q))
 exchanges_in_step k [] p q zero = (omega arith, omega arith)

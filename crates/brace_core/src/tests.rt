@@ -121,6 +121,13 @@ struct Log {
 }
 
 impl Log {
+    fn empty() -> Log {
+        Log {
+            events: Cell::new(0),
+            trace: Cell::new(0),
+        }
+    }
+
     fn note(&self, number: u32) {
         self.events.set(self.events.get().wrapping_add(1));
         let trace = self.trace.get().wrapping_mul(3);
@@ -135,6 +142,21 @@ struct Walker<'a> {
     past: usize,
     log: &'a Log,
     ghost low: { number < 3 },
+}
+
+impl<'a> Walker<'a> {
+    /// An actor before its first turn.
+    fn new(number: u32, log: &'a Log) -> Walker<'a>
+        requires { number < 3 }
+        ensures number { result.number ≡ number }
+        ensures past { result.past ≡ 0 }
+    {
+        Walker {
+            number,
+            past: 0,
+            log,
+        }
+    }
 }
 
 impl Actor<Parcel> for Walker<'_> {
@@ -200,26 +222,11 @@ static TRACES: [u64; 16] = [
 #[test]
 fn every_order_makes_as_many_events_as_there_are_turns(rt: HostRuntime) -> Result<(), Fail> {
     for (order, trace) in TRACES.iter().enumerate() {
-        let log = Log {
-            events: Cell::new(0),
-            trace: Cell::new(0),
-        };
+        let log = Log::empty();
         let mut actors = [
-            Walker {
-                number: 0,
-                past: 0,
-                log: &log,
-            },
-            Walker {
-                number: 1,
-                past: 0,
-                log: &log,
-            },
-            Walker {
-                number: 2,
-                past: 0,
-                log: &log,
-            },
+            Walker::new(0, &log),
+            Walker::new(1, &log),
+            Walker::new(2, &log),
         ];
         let mut lanes = PlainLanes::<Parcel>::make(rt.alloc(), &Small, 3)?;
         run_in_order(&mut actors, &mut lanes, order as u64, 4);
@@ -231,26 +238,11 @@ fn every_order_makes_as_many_events_as_there_are_turns(rt: HostRuntime) -> Resul
 
 #[test]
 fn fronts_one_behind_the_other_make_all_turns(rt: HostRuntime) -> Result<(), Fail> {
-    let log = Log {
-        events: Cell::new(0),
-        trace: Cell::new(0),
-    };
+    let log = Log::empty();
     let mut actors = [
-        Walker {
-            number: 0,
-            past: 0,
-            log: &log,
-        },
-        Walker {
-            number: 1,
-            past: 0,
-            log: &log,
-        },
-        Walker {
-            number: 2,
-            past: 0,
-            log: &log,
-        },
+        Walker::new(0, &log),
+        Walker::new(1, &log),
+        Walker::new(2, &log),
     ];
     let mut lanes = PlainLanes::<Parcel>::make(rt.alloc(), &Small, 3)?;
     run_in_order(&mut actors, &mut lanes, 5, 0);

@@ -1,24 +1,16 @@
 -- Where the points of a part stand, and that each point has one part.
-use Rattle.std.proofs.Common.{◌≡◌, ◌∙◌, ℕ, zero, suc, ◌+◌, ◌*◌, ◌/◌, ◌%◌, ◌≤◌, ◌<◌, ℤ, pos, ◌-ℤ◌, ◌≤ℤ◌, List, [], ◌∷◌, length, get_or, true, false, sym, ap, ap₂, subst, arith}
-use Rattle.std.specs.Prelude.{int_lt, int_le, FitsSigned}
+use Rattle.std.proofs.Common.{◌≡◌, ◌∙◌, ℕ, ◌+◌, ◌*◌, ◌/◌, ◌%◌, ◌≤◌, ◌<◌, ℤ, pos, ◌-ℤ◌, ◌≤ℤ◌, List, length, true, false, sym, ap, ap₂, subst, arith}
+use Rattle.std.specs.Prelude.{int_le, FitsSigned}
 use Rattle.std.specs.Int.{int_max, w64}
-use Rattle.std.specs.List.{list_all}
 use Rattle.std.proofs.lemmas.Int.{ints}
 use Rattle.std.proofs.lemmas.List.Sums.{count_by-le-length}
 use Rattle.std.proofs.lemmas.Nat.{div-add-mod', div-mul-add, mod-mul-add, div_below, mod_below}
-use Rattle.std.proofs.lemmas.Bool.{and_parts}
 use Rattle.brace_num.specs.declared.kinds.Area.{Area}
 use Rattle.brace_num.specs.Areas.{outside, gap_to}
 use Rattle.brace_num.proofs.Numbers.{le_holds, le_told}
 use Rattle.brace_cuts.specs.declared.space.Cuts.{Cuts}
-use Rattle.brace_cuts.specs.Space.{least, behind_all, rises, strip, low_end, high_end, columns_of, parts_of, area_of, owner_of, can_cut}
+use Rattle.brace_cuts.specs.Space.{least, behind_all, rises, strip, low_end, high_end, columns_of, parts_of, area_of, owner_of}
 use Rattle.brace_cuts.proofs.Strips.{own_low, own_high, only_strip}
-
--- a cut, as an order
-pub cut_is_above : (cuts : List ℤ) (i : ℕ) (d : ℤ) → list_all can_cut cuts ≡ true → i < length cuts → int_lt least (get_or cuts i d) ≡ true
-cut_is_above [] i d all below = absurd (omega (arith, below))
-cut_is_above (c ∷ cuts) zero d all below = (and_parts (can_cut c) (list_all can_cut cuts) all).0
-cut_is_above (c ∷ cuts) (suc i) d all below = cut_is_above cuts i d (and_parts (can_cut c) (list_all can_cut cuts) all).1 (omega (arith, below))
 
 -- a number of 64 bits is between the ends of all
 above_least : (v : ℤ) → FitsSigned w64 v → int_le least v ≡ true

@@ -22,9 +22,6 @@ pub record ReadSoFar {X : Type 0} (f : X → List ℕ) (texts : List X) (cuts : 
   pub so_far : cuts ≡ filter_map cut_of (map f (take i texts))
   pub all_there : list_all (λ text. is_some (cut_of text)) (map f (take i texts)) ≡ true
 
-pub read_none : {X : Type 0} (f : X → List ℕ) (texts : List X) → ReadSoFar f texts [] 0
-read_none f texts = record { so_far = refl; all_there = refl }
-
 front_more : {X : Type 0} (f : X → List ℕ) (texts : List X) (i : ℕ) (d : X) → i < length texts → map f (take (i + 1) texts) ≡ map f (take i texts) ++ f (get_or texts i d) ∷ []
 front_more f texts i d below = ap (map f) (take_more texts i d below) ∙ map-append f (take i texts) (get_or texts i d ∷ [])
 

@@ -1,5 +1,5 @@
 -- A line of the form without a fault behind a plan's lines makes a plan with them.
-use Rattle.std.proofs.Common.{◌≡◌, ◌∙◌, ℕ, zero, suc, ◌+◌, ◌-◌, ◌<◌, ◌≤◌, ◌^◌, ◌%◌, ℤ, List, [], ◌∷◌, ◌++◌, length, get_or, take, drop, Bool, true, false, refl, sym, ap, ap₂, subst, arith, ⊎_elim, Option, Some, None}
+use Rattle.std.proofs.Common.{◌≡◌, ◌∙◌, ℕ, zero, suc, ◌+◌, ◌-◌, ◌<◌, ◌≤◌, ◌^◌, ◌%◌, ℤ, List, [], ◌∷◌, ◌++◌, length, get_or, take, drop, Bool, true, false, refl, sym, ap, ap₂, subst, arith, ⊎_elim, Option, Some, None, length-append}
 use Rattle.std.specs.Prelude.{nat_lt, nat_le, ◌==◌, ◌&&◌, not, if◌then◌else◌, filter_map, is_some, slice_get, slice_index, unwrap_or, codes, position}
 use Rattle.std.specs.List.{list_all, last_or, cons_option}
 use Rattle.std.specs.List.Sorted.{IsStrictlyIncreasing}
@@ -8,7 +8,6 @@ use Rattle.std.proofs.Math.Seq.{get_or-append_seam}
 use Rattle.std.proofs.lemmas.Bool.{cases_lt, and_parts}
 use Rattle.std.proofs.lemmas.Bool.Decides.{nat_tests}
 use Rattle.std.proofs.lemmas.List.{length-map, get_or-map, map-append, get_or_append_left}
-use Rattle.std.proofs.Common.{length-append}
 use Rattle.brace_num.specs.Spelling.{count_of, fixed_of}
 use Rattle.brace_cuts.specs.declared.plan.CutLine.{CutLine}
 use Rattle.brace_cuts.specs.declared.kinds.PlanKind.TheVariants.{NotRising, OffEpoch, OtherCount, TooMany}
@@ -73,11 +72,9 @@ in_form true tick cuts y line h = around tick cuts y line h
 in_form false tick cuts y line h = absurd (cc)
 
 formed_in : (parts : List (List ℕ)) (line : CutLine) → line_in parts ≡ Some line → Formed line
-formed_in [] line h = absurd (cc)
-formed_in (at ∷ []) line h = absurd (cc)
-formed_in (at ∷ tick ∷ []) line h = absurd (cc)
 formed_in (at ∷ tick ∷ x ∷ cuts) line h =
     in_form (bytes_eq at (codes "at") && bytes_eq x (codes "x")) tick cuts (position (λ part. bytes_eq part (codes "y")) cuts) line h
+formed_in _ line h = absurd (cc)
 
 -- what a line without a fault passes
 record Judged (epoch : ℕ) (earlier : List CutLine) (line : CutLine) : Type 0 where

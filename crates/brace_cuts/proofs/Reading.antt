@@ -3,9 +3,8 @@ use Rattle.std.proofs.Common.{◌≡◌, ◌∙◌, ℕ, suc, ◌+◌, ◌<◌, 
 use Rattle.std.specs.Prelude.{map, ◌==◌}
 use Rattle.std.specs.List.{cons_option}
 use Rattle.std.proofs.Math.Seq.{drop-cons}
-use Rattle.std.proofs.lemmas.List.{drop-map, drop_all}
+use Rattle.std.proofs.lemmas.List.{drop-map, drop_all, length-map}
 use Rattle.std.proofs.lemmas.List.Splits.{length-slice_split}
-use Rattle.std.proofs.lemmas.List.{length-map}
 use Rattle.brace_cuts.specs.declared.plan.CutLine.{CutLine}
 use Rattle.brace_cuts.specs.declared.kinds.PlanKind.{PlanKind}
 use Rattle.brace_cuts.specs.CutPlans.{line_of, lines_of, without_last_end, lines_in, fault_behind, first_fault}

@@ -1,6 +1,6 @@
 -- Which strip a number is in: of rising cuts it is not below the first ones.
 use Rattle.std.proofs.Common.{◌≡◌, ◌∙◌, ℕ, zero, suc, ◌+◌, ◌≤◌, ◌<◌, ℤ, List, [], ◌∷◌, length, get_or, take, drop, Bool, true, false, refl, sym, ap, subst, arith, ⊎_elim, ◌≤ℤ◌, zero-add}
-use Rattle.std.specs.Prelude.{int_lt, int_le, ◌&&◌, cond}
+use Rattle.std.specs.Prelude.{int_lt, int_le, cond}
 use Rattle.std.specs.List.{filter, count_by}
 use Rattle.std.specs.List.Sorted.{IsPartitionedBy}
 use Rattle.std.proofs.lemmas.List.{length-take-le}
@@ -104,16 +104,6 @@ pub count_is_place : {X : Type 0} (p : X → Bool) (xs : List X) (i : ℕ) → i
     → i ≡ count_by p xs
 count_is_place p xs i short is isnt =
     sym (length-take-le i xs short) ∙ ap length (sym (filter_is_front p xs i short is isnt)) ∙ length-filter p xs
-
--- whether cuts rise, seen from a place on
-pub rises_from : (d : ℤ) (cuts : List ℤ) (n : ℕ) → n + 1 < length cuts → rises (drop n cuts) ≡ (int_lt (get_or cuts n d) (get_or cuts (n + 1) d) && rises (drop (n + 1) cuts))
-rises_from d [] n below = absurd (omega (arith, below))
-rises_from d (c ∷ []) n below = absurd (omega (arith, below))
-rises_from d (c ∷ b ∷ cuts) zero below = refl
-rises_from d (c ∷ b ∷ cuts) (suc n) below =
-    let e : suc n + 1 ≡ suc (n + 1) = omega arith in
-    rises_from d (b ∷ cuts) n (omega (arith, below))
-    ∙ ap (λ k. int_lt (get_or (b ∷ cuts) n d) (get_or (c ∷ b ∷ cuts) k d) && rises (drop k (c ∷ b ∷ cuts))) (sym e)
 
 -- no cut and one cut rise
 pub rises_at_end : (cuts : List ℤ) (n : ℕ) → length cuts ≤ n + 1 → rises (drop n cuts) ≡ true

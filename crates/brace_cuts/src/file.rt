@@ -77,7 +77,8 @@ impl From<NoMemory> for PlanFault {
     }
 }
 
-fn split_lines<'a>(alloc: Global, bytes: &'a [u8]) -> Result<Vec<&'a [u8]>, NoMemory>
+/// The lines of a text. Each ends with its byte 10, which the last may lack.
+pub fn split_lines<'a>(alloc: Global, bytes: &'a [u8]) -> Result<Vec<&'a [u8]>, NoMemory>
     ensures { IfOk result (λ lines. map (λ p. p.now) lines.items ≡ lines_of bytes.now) }
 {
     Ok(pieces(alloc, without_last_end(bytes), b'\n')?)

@@ -8,7 +8,8 @@ mod line;
 mod plan;
 mod space;
 
-pub use file::read_plan;
+pub use file::{read_plan, split_lines};
 pub use kinds::{PlanFault, PlanKind};
+pub use line::pieces;
 pub use plan::{CutLine, CutPlan};
-pub use space::Cuts;
+pub use space::{Cuts, rises};

@@ -11,13 +11,9 @@ use std::alloc::{AllocError, Global};
 const LAST_TICK: u64 = 4_294_967_296;
 
 /// What stands between the bytes of a kind.
-pub(crate) fn pieces<'a>(
-    alloc: Global,
-    bytes: &'a [u8],
-    end: u8,
-) -> Result<Vec<&'a [u8]>, AllocError>
-    ensures { IfOk result (λ pieces. map (λ p. p.now) pieces.items ≡
-        slice_split (λ b. b == end) bytes.now) }
+pub fn pieces<'a>(alloc: Global, bytes: &'a [u8], end: u8) -> Result<Vec<&'a [u8]>, AllocError>
+    ensures { IfOk result (λ pieces. map (λ p. p.now) pieces.items
+        ≡ slice_split (λ b. b == end) bytes.now) }
 {
     bytes.split(move |byte| *byte == end).collect(alloc)
 }

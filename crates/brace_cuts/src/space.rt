@@ -114,8 +114,8 @@ pub(crate) fn both_rise(cuts: &Cuts) -> bool
     rises(cuts.xs.as_slice()) && rises(cuts.ys.as_slice())
 }
 
-// Whether each number is below the next.
-fn rises(cuts: &[i64]) -> bool
+/// Whether each number is below the next. It takes no memory.
+pub fn rises(cuts: &[i64]) -> bool
     ensures { result ≡ rises cuts.now }
 {
     for i in 1..cuts.len() {

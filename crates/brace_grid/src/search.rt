@@ -1,7 +1,7 @@
 ghost use Rattle.std.specs.Prelude.{◌≡◌, ◌+◌, ◌-◌, ◌*◌, ◌<◌, ◌≤◌, ℕ, ℤ, Bool, ◌&&◌, ◌++◌, map, take, drop, length, pos, ◌<ℤ◌, ◌≤ℤ◌, ◌+ℤ◌, OnOk, if◌then◌else◌, [], ◌∷◌};
 ghost use Rattle.std.specs.List.{count_by, filter};
 ghost use Rattle.brace_grid.specs.Grids.{digits, is_between};
-ghost use Rattle.brace_grid.specs.inner.Layout.{before, CellsRise, SpotsRise, AreCellsOf};
+ghost use Rattle.brace_grid.specs.inner.Layout.{before, AreLaidOut, CellsRise};
 ghost use Rattle.brace_grid.specs.inner.Search.{IsRank, IsPlace, is_spot_inside, is_in_rows, is_up_to, is_in_block, is_chosen, block_of};
 
 use crate::cells::{Cell, Layout, Spot};
@@ -61,8 +61,7 @@ fn rank<L: Ledger>(cells: &Looks<Cell>, column: i64, row: i64, steps: &mut Steps
 
 /// How many spots are in cells before cell (column, row).
 fn place<L: Ledger>(layout: &Layout, column: i64, row: i64, steps: &mut Steps<L>) -> usize
-    requires spots { SpotsRise layout.now.spots }
-    requires cells { AreCellsOf layout.now.spots layout.now.cells }
+    requires laid { AreLaidOut layout.now.spots layout.now.cells }
     ensures place { IsPlace layout.now.spots column row result }
     ensures steps { steps.new ≤ steps.old + (1 + digits (length layout.now.cells)) }
 {
@@ -147,8 +146,7 @@ fn gather_column<L: Ledger>(
     out: &mut Vec<u32>,
     steps: &mut Steps<L>,
 ) -> Result<(), NoMemory>
-    requires spots { SpotsRise layout.now.spots }
-    requires cells { AreCellsOf layout.now.spots layout.now.cells }
+    requires laid { AreLaidOut layout.now.spots layout.now.cells }
     ensures found { OnOk result ((q : ℕ → Bool) → count_by q out.new.items
         ≡ count_by q out.old.items + count_by (is_chosen (is_in_rows column block.now.south
         block.now.north) area.now q) layout.now.spots) }
@@ -167,8 +165,7 @@ pub fn gather_block<L: Ledger>(
     out: &mut Vec<u32>,
     steps: &mut Steps<L>,
 ) -> Result<(), NoMemory>
-    requires spots { SpotsRise layout.now.spots }
-    requires cells { AreCellsOf layout.now.spots layout.now.cells }
+    requires laid { AreLaidOut layout.now.spots layout.now.cells }
     requires east { block.now.east <ℤ pos 9223372036854775807 }
     requires north { block.now.north <ℤ pos 9223372036854775807 }
     requires narrow { block.now.east ≤ℤ (block.now.west +ℤ pos 2) }

@@ -60,10 +60,8 @@ pub seen_same : (part : List Stmt → List Stmt) (m : Program) (w : List Agent) 
 seen_same part m w a class = ap (λ test. filter test w) (λ i b. (b.class == class) && sees_same part m a b i)
 
 step_same : (part : List Stmt → List Stmt) (m : Program) (w : List Agent) (y : layer.Stmt-F (Scope → Deed)) → statement_step (with_queries part m) w y ≡ statement_step m w y
-step_same part m w (layer.Const n e) = refl
-step_same part m w (layer.If c a b) = refl
 step_same part m w (layer.Foreach class body at) = λ i scope. iterated scope (map (λ b. block body (inside scope b)) (seen_same part m w scope.this class i))
-step_same part m w (layer.Assign who effect e at) = refl
+step_same part m w _ = refl
 
 statement_same : (part : List Stmt → List Stmt) (m : Program) (w : List Agent) → statement (with_queries part m) w ≡ statement m w
 statement_same part m w = ap (fold-Stmt (Scope → Deed)) (λ i y. step_same part m w y i)

@@ -132,8 +132,7 @@ only_name x y false w = none_within _ y w
 -- whom a fault names
 named_agent : (scope : Scope) (stop : Stop) (x : Who) (id : ℕ) → id_in (query_fault scope stop) x ≡ Some id → (p : Agent) → loop_agent scope x ≡ Some p → p.id ≡ id
 named_agent scope stop who.This id is p e = absurd (cc)
-named_agent scope stop who.Outer id is p e = same_Some p.id id (sym (ap (option_map (λ y. y.id)) e) ∙ is)
-named_agent scope stop who.Inner id is p e = same_Some p.id id (sym (ap (option_map (λ y. y.id)) e) ∙ is)
+named_agent scope stop _ id is p e = same_Some p.id id (sym (ap (option_map (λ y. y.id)) e) ∙ is)
 
 module _ (m : Program) (w : List Agent) (held : Agent → Bool) (deep : Bool) (a : Agent) (id : ℕ) (r : Reaches m w held deep a id) (g : Fault) (y : Who) (had : id_in g y ≡ Some id) where
   abbrev Keeps : Depth → Bool → List Stmt → Type 0

@@ -13,7 +13,7 @@ use Rattle.brace_model.specs.declared.program.Stmt.TheVariants.{Const, If, Forea
 use Rattle.brace_model.specs.Query.{constants}
 use Rattle.brace_model.specs.Sites.{sites_of, sites_in, constant_numbers, loop_offsets, assignments}
 use Rattle.brace_model.proofs.ValueEquations.{constants-Const, constants-If, constants-Foreach, constants-Assign}
-use Rattle.brace_model.proofs.LawEquations.{sites_of-Lit, sites_in-Const, sites_in-If, sites_in-Foreach, sites_in-Assign, constant_numbers-Const, constant_numbers-If, constant_numbers-Foreach, constant_numbers-Assign, loop_offsets-Const, loop_offsets-If, loop_offsets-Foreach, loop_offsets-Assign, assignments-Const, assignments-If, assignments-Foreach, assignments-Assign}
+use Rattle.brace_model.proofs.LawEquations.{sites_of-Lit, sites_in-Const, sites_in-If, sites_in-Foreach, constant_numbers-Const, constant_numbers-If, constant_numbers-Foreach, constant_numbers-Assign, loop_offsets-Const, loop_offsets-If, loop_offsets-Foreach, assignments-Const, assignments-If, assignments-Foreach}
 use Rattle.brace_invert.specs.Split.{unread, places}
 use Rattle.brace_invert.proofs.Sublists.{Sub, none, sub-refl, sub-append, sub-right, sub-by}
 use Rattle.brace_model.proofs.Blocks as b

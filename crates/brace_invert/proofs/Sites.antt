@@ -7,7 +7,7 @@ use Rattle.std.proofs.lemmas.List.Elements.{Contains-append_left, Contains-appen
 use Rattle.brace_num.specs.declared.kinds.Kind.{Kind}
 use Rattle.brace_model.specs.declared.program.Ty.{Ty}
 use Rattle.brace_model.specs.declared.program.Value.{Value}
-use Rattle.brace_model.specs.declared.program.Value.TheVariants.{Int, Fixed, Flag}
+use Rattle.brace_model.specs.declared.program.Value.TheVariants.{Flag}
 use Rattle.brace_model.specs.declared.program.UnOp.{UnOp}
 use Rattle.brace_model.specs.declared.program.UnOp.TheVariants as un
 use Rattle.brace_model.specs.declared.program.BinOp.{BinOp}
@@ -55,12 +55,9 @@ made_sited as_value None r e = absurd (cc)
 made_sited as_value (Some k) r e = made_at as_value k r
 
 unary_at : (op : UnOp) (site : Option ℕ) (v : Value) → is_sited (unary_faults op) site ≡ true → FaultsAt (unary op site v) (option_to_list site)
-unary_at un.Neg site v e = made_sited _ site _ e
 unary_at un.Not site v e = fine _ _
-unary_at un.Abs site v e = made_sited _ site _ e
-unary_at un.Sqrt site v e = made_sited _ site _ e
-unary_at un.ToFixed site v e = made_sited _ site _ e
 unary_at un.Trunc site v e = fine _ _
+unary_at _ site v e = made_sited _ site _ e
 
 strict_at : (op : BinOp) (site : Option ℕ) (v x : Value) → is_sited (binary_faults op) site ≡ true → FaultsAt (strict op site v x) (option_to_list site)
 strict_at bin.Add site v x e = made_sited _ site _ e
@@ -68,22 +65,11 @@ strict_at bin.Sub site v x e = made_sited _ site _ e
 strict_at bin.Mul site v x e = made_sited _ site _ e
 strict_at bin.Div site v x e = made_sited _ site _ e
 strict_at bin.Rem site v x e = made_sited _ site _ e
-strict_at bin.Lt site v x e = fine _ _
-strict_at bin.Le site v x e = fine _ _
-strict_at bin.Gt site v x e = fine _ _
-strict_at bin.Ge site v x e = fine _ _
-strict_at bin.Eq site v x e = fine _ _
-strict_at bin.Ne site v x e = fine _ _
-strict_at bin.And site v x e = fine _ _
-strict_at bin.Or site v x e = fine _ _
-strict_at bin.Min site v x e = fine _ _
-strict_at bin.Max site v x e = fine _ _
+strict_at _ site v x e = fine _ _
 
 choose_at : (v : Value) (a d : Worth) (xs : List ℕ) → FaultsAt a xs → FaultsAt d xs → FaultsAt (choose v a d) xs
 choose_at (Flag true) a d xs ha hd = ha
-choose_at (Flag false) a d xs ha hd = hd
-choose_at (Int n) a d xs ha hd = hd
-choose_at (Fixed n) a d xs ha hd = hd
+choose_at _ a d xs ha hd = hd
 
 either_at : (a d : Worth) (next : Value → Worth) (xs ys : List ℕ) (site : Option ℕ) → FaultsAt a xs → FaultsAt d ys → ((v : Value) → FaultsAt (next v) ys) → FaultsAt (with_value a next) (xs ++ (ys ++ option_to_list site))
 either_at a d next xs ys site ha hd hn =
@@ -143,10 +129,7 @@ where_sited false o t e = absurd (cc)
 
 layer_sited : (y : expr.Expr-F Known) (names : Names) (t : Ty) → type_step (map-Expr Expr Types type_of (map-Expr Known Expr known y)) names ≡ Some t → (scope : Scope)
     → FaultsAt (value_step (map-Expr Expr Worths value (map-Expr Known Expr known y)) scope) (sites_step (map-Expr Expr (List ℕ) sites_of (map-Expr Known Expr known y)))
-layer_sited (expr.Lit v) names t e scope = fine _ []
-layer_sited (expr.Field who i) names t e scope = fine _ []
 layer_sited (expr.Total effect type site) names t e scope = total_at type site (slice_index_or scope.totals effect (pos 0))
-layer_sited (expr.Local n) names t e scope = fine _ []
 layer_sited (expr.Unary op site a) names t e scope =
     let (sited, typed) = where_sited (is_sited (unary_faults op) site) _ t e in
     let (s, is_a, fits) = two_steps (unary_type op) (type_of a.0 names) t typed in
@@ -165,6 +148,7 @@ layer_sited (expr.Choice c a d) names t e scope =
     (faults-more (value a.0 scope) (sites_of a.0) _ (λ x. Contains-append_left (sites_of a.0) (sites_of d.0) x) (a.1 names s is_a scope))
     (faults-more (value d.0 scope) (sites_of d.0) _ (λ x. Contains-append_right (sites_of a.0) (sites_of d.0) x) (d.1 names r is_d scope)))
 layer_sited (expr.Rand site) names t e scope = fine _ (site ∷ [])
+layer_sited _ names t e scope = fine _ []
 
 pub value_sited : (e : Expr) → IsSited e
 value_sited = ind-Expr IsSited (λ x y is names t typed scope.

@@ -64,17 +64,15 @@ Types = Names → Option Ty
 
 layer_same : (part : List Stmt → List Stmt) (y : expr.Expr-F (Known part)) (names : Names)
     → type_step (map-Expr Expr Types type_of (map-Expr (Known part) Expr (known part) y)) (renamed part names) ≡ type_step (map-Expr Expr Types type_of (map-Expr (Known part) Expr (known part) y)) names
-layer_same part (expr.Lit v) names = refl
 layer_same part (expr.Field who i) names = state_same part names who i
 layer_same part (expr.Total effect type site) names = ap (λ o. if names.in_rule then option_and_then (λ e. only (same_type e.ty type && is_sited (is_sum e.comb) site) type) o else None) (effect_same part names This effect)
-layer_same part (expr.Local n) names = refl
 layer_same part (expr.Unary op site a) names = ap (λ o. if is_sited (unary_faults op) site then option_and_then (unary_type op) o else None) (a.1 names)
 layer_same part (expr.Binary op site a b) names =
     ap₂ (λ o p. if is_sited (binary_faults op) site then option_and_then (λ s. option_and_then (binary_type op s) p) o else None) (a.1 names) (b.1 names)
 layer_same part (expr.Choice c a b) names =
     ap₂ (λ o q. option_and_then (λ p. option_and_then (λ s. option_and_then (choice_type p s) (type_of b.0 (renamed part names))) q) o) (c.1 names) (a.1 names)
     ∙ ap (λ o. option_and_then (λ p. option_and_then (λ s. option_and_then (choice_type p s) o) (type_of a.0 names)) (type_of c.0 names)) (b.1 names)
-layer_same part (expr.Rand site) names = refl
+layer_same part _ names = refl
 
 pub type_same : (part : List Stmt → List Stmt) (e : Expr) (names : Names) → type_of e (renamed part names) ≡ type_of e names
 type_same part = ind-Expr (IsSame part) (λ x y is names.
@@ -138,10 +136,8 @@ stays x s names last test is e =
     (holds, subst (λ n. After s n last) (sym same) rest)
 
 bool_type : (o : Option Ty) → is_of_type ty.Bool o ≡ true → o ≡ Some ty.Bool
-bool_type None e = absurd (cc)
-bool_type (Some ty.Int) e = absurd (cc)
-bool_type (Some ty.Fixed) e = absurd (cc)
 bool_type (Some ty.Bool) e = refl
+bool_type _ e = absurd (cc)
 
 pub formed_if : (c : Expr) (a b s : List Stmt) (names last : Names) → After (If c a b ∷ s) names last → FormedIf c a b s names last
 formed_if c a b s names last e =

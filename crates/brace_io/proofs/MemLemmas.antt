@@ -9,7 +9,7 @@ use Rattle.std.proofs.lemmas.Option.{slice_get-get_or, slice_get_past}
 use Rattle.std.proofs.lemmas.List.Folds.{find-set, find_past, find-append, find_at}
 use Rattle.std.proofs.lemmas.List.Sums.{passes_at_first, prefix_len-le-length}
 use Rattle.std.proofs.lemmas.List.{take_rest, drop_min}
-use Rattle.brace_io.specs.Shelves.{Stage, Idle, Reading, Writing, Stopped}
+use Rattle.brace_io.specs.Shelves.{Stage, Reading, Writing}
 use Rattle.brace_io.specs.inner.MemStages.{mem_stage, IsAt, Spotted}
 use Rattle.brace_io.specs.declared.mem_shelf.Doing.{Doing}
 use Rattle.brace_io.specs.declared.mem_shelf.Doing.TheVariants as doing
@@ -120,31 +120,21 @@ held_below before es name i same at has =
     omega (arith, le, at', ne)
 
 abbrev name_at : Stage → List ℕ
-name_at Idle = []
-name_at (Reading None) = []
 name_at (Reading (Some at)) = at.0
-name_at (Writing None) = []
 name_at (Writing (Some name)) = name
-name_at (Stopped name) = []
+name_at _ = []
 
 abbrev place_at : Stage → ℕ
-place_at Idle = 0
-place_at (Reading None) = 0
 place_at (Reading (Some at)) = at.1
-place_at (Writing name) = 0
-place_at (Stopped name) = 0
+place_at _ = 0
 
 pub writing_at : (d : Doing) (es : List Entry) (said : List ℕ) (place i : ℕ) (name : List ℕ) → mem_stage d said place ≡ Writing (Some name) → Spotted d es said i → IsAt es name i
-writing_at doing.Idle es said place i name e h = cc
-writing_at doing.Reading es said place i name e h = cc
 writing_at doing.Writing es said place i name e h = subst (λ (x : List ℕ). IsAt es x i) (ap name_at e) h
-writing_at doing.Stopped es said place i name e h = cc
+writing_at _ es said place i name e h = cc
 
 pub reading_at : (d : Doing) (es : List Entry) (said : List ℕ) (place i : ℕ) (name : List ℕ) (p : ℕ) → mem_stage d said place ≡ Reading (Some (name, p)) → Spotted d es said i → IsAt es name i × (place ≡ p)
-reading_at doing.Idle es said place i name p e h = cc
 reading_at doing.Reading es said place i name p e h = (subst (λ (x : List ℕ). IsAt es x i) (ap name_at e) h, ap place_at e)
-reading_at doing.Writing es said place i name p e h = cc
-reading_at doing.Stopped es said place i name p e h = cc
+reading_at _ es said place i name p e h = cc
 
 pub is_at : (before es : List Entry) (name : List ℕ) (i : ℕ) → before ≡ es → IsAt es name i → i ≡ position_or_len (named name) before
 is_at before es name i same h = h.1 ∙ ap (λ (x : List Entry). position_or_len (named name) x) (sym same)

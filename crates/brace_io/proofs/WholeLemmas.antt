@@ -1,13 +1,9 @@
 -- What two writes in turn add.
-use Rattle.std.proofs.Common.{◌≡◌, ◌≤◌, ◌+◌, ◌-◌, ◌∙◌, ◌++◌, ℕ, List, [], Option, Some, None, Bool, cond, take, drop, length, sym, refl, ap, arith, append_assoc, length-drop}
-use Rattle.std.proofs.lemmas.List.{append-nil, take_all}
+use Rattle.std.proofs.Common.{◌≡◌, ◌≤◌, ◌+◌, ◌-◌, ◌∙◌, ◌++◌, ℕ, List, Option, Some, None, Bool, cond, take, drop, length, sym, refl, ap, arith, append_assoc, length-drop}
+use Rattle.std.proofs.lemmas.List.{take_all}
 use Rattle.std.proofs.Math.Seq.{take-add}
 use Rattle.brace_io.specs.Shelves.{Files, Stage, Writing, tells, Holds, Adds, OnlyAt, WritesTo}
 use Rattle.brace_io.specs.Sinks.{with_piece, Gains}
-
-pub Gains-none : (a : Option (List ℕ)) → Gains a a []
-Gains-none None = refl
-Gains-none (Some s) = ap Some (sym (append-nil s))
 
 pub with_piece-twice : (a : Option (List ℕ)) (p q : List ℕ) → with_piece (with_piece a p) q ≡ with_piece a (p ++ q)
 with_piece-twice None p q = refl

@@ -1,6 +1,6 @@
 ghost use Rattle.std.specs.Prelude.{◌≡◌, ◌≤◌, ◌+◌, ◌≢◌, ◌⊎◌, Err, IfOk, IfErr, length, vec_len, true, false};
 ghost use Rattle.brace_io.specs.Counts.{Rose};
-ghost use Rattle.brace_io.specs.Shelves.{Idle, tells, Holds, HoldsOver, Has, Lacks, ReadsFrom, ReadsWithin, StoppedAt, writes};
+ghost use Rattle.brace_io.specs.Shelves.{Idle, tells, Holds, HoldsOver, Lacks, ReadsFrom, ReadsWithin, StoppedAt, writes};
 
 use crate::{ReadFault, Shelf, WholeFault};
 use std::alloc::{AllocError, Global};
@@ -42,42 +42,10 @@ pub fn read_whole<S: Shelf>(
         → Rose (S.faults shelf.old) (S.faults shelf.new)) }
 {
     match shelf.begin_read(name) {
-        Ok(()) => read_on(alloc, shelf, name, limit),
-        Err(ReadFault::Absent) => Err(WholeFault::Absent),
-        Err(ReadFault::Failed) => Err(WholeFault::Failed),
+        Ok(()) => {}
+        Err(ReadFault::Absent) => return Err(WholeFault::Absent),
+        Err(ReadFault::Failed) => return Err(WholeFault::Failed),
     }
-}
-
-/// Reads the rest of a file from its first byte on.
-fn read_on<S: Shelf>(
-    alloc: Global,
-    shelf: &mut S,
-    name: &str,
-    limit: u64,
-) -> Result<Vec<u8>, WholeFault>
-    requires reads { ReadsFrom (S.held shelf.old) (S.stage shelf.old) name.now 0 }
-    requires has { Has (S.held shelf.old) name.now }
-    ensures held_alone { S.held shelf.new ≡ S.held shelf.old }
-    ensures present { result ≢ Err WholeFault.Absent }
-    ensures all { IfOk result (λ bytes. Holds (S.held shelf.old) name.now bytes.items) }
-    ensures within { IfOk result (λ bytes. length bytes.items ≤ limit) }
-    ensures reads { IfOk result (λ bytes. ReadsFrom (S.held shelf.old) (S.stage shelf.new) name.now
-        (length bytes.items)) }
-    ensures long { IfErr result (λ fault. fault ≡ WholeFault.TooLong
-        → HoldsOver (S.held shelf.old) name.now limit) }
-    ensures stops_past { IfErr result (λ fault. fault ≡ WholeFault.TooLong
-        → ReadsFrom (S.held shelf.old) (S.stage shelf.new) name.now (limit + 1)) }
-    ensures refused { IfErr result (λ fault. fault ≡ WholeFault.NoMemory
-        → ReadsWithin (S.held shelf.old) (S.stage shelf.new) name.now limit) }
-    ensures stops { IfErr result (λ fault. fault ≡ WholeFault.Failed
-        → StoppedAt (S.held shelf.old) (S.stage shelf.new) name.now) }
-    ensures not_writing { writes (S.stage shelf.new) ≡ false }
-    ensures faults_alone { result ≢ Err WholeFault.Failed
-        → S.faults shelf.new ≡ S.faults shelf.old }
-    ensures never_falls { S.faults shelf.old ≤ S.faults shelf.new }
-    ensures rose { IfErr result (λ fault. fault ≡ WholeFault.Failed
-        → Rose (S.faults shelf.old) (S.faults shelf.new)) }
-{
     let mut chunk = zeros(alloc, CHUNK)?;
     let mut bytes = Vec::new(alloc);
     'file: loop {

@@ -1,6 +1,6 @@
 -- Places are apart, and what a store changes of the counts.
-use Rattle.std.proofs.Common.{◌≡◌, ◌≢◌, ◌≤◌, ◌<◌, ◌+◌, ◌*◌, ◌/◌, ◌%◌, ◌-◌, ◌∙◌, ◌⊎◌, ℕ, zero, suc, List, length, max, refl, sym, ap, subst, inl, inr, arith, suc-mul, mul-le-mul_right}
-use Rattle.std.specs.Prelude.{slice_index, slice_set}
+use Rattle.std.proofs.Common.{◌≡◌, ◌≢◌, ◌≤◌, ◌<◌, ◌+◌, ◌*◌, ◌/◌, ◌%◌, ◌-◌, ◌∙◌, ◌⊎◌, ℕ, suc, List, length, sym, ap, inl, inr, arith, suc-mul, mul-le-mul_right}
+use Rattle.std.specs.Prelude.{slice_set}
 use Rattle.std.proofs.lemmas.Bool.{cases_eq}
 use Rattle.std.proofs.lemmas.Nat.{div-mul-add, mod-mul-add}
 use Rattle.std.proofs.lemmas.List.{get_or-set_other, get_or-set_same}

@@ -1,10 +1,10 @@
 -- What a put and a take change of a seat's counts.
-use Rattle.std.proofs.Common.{◌≡◌, ◌≢◌, ◌≤◌, ◌<◌, ◌+◌, ◌*◌, ◌^◌, ◌∙◌, ℕ, zero, suc, Bool, true, false, ◌==◌, ◌&&◌, nat_lt, List, [], ◌∷◌, cond, length, get_or, refl, sym, ap, subst, inl, inr, arith, length-set, true≢false}
+use Rattle.std.proofs.Common.{◌≡◌, ◌≢◌, ◌≤◌, ◌<◌, ◌+◌, ◌*◌, ◌^◌, ◌∙◌, ℕ, true, false, ◌==◌, ◌&&◌, nat_lt, List, [], ◌∷◌, cond, length, get_or, refl, sym, ap, subst, inl, inr, arith, length-set, true≢false}
 use Rattle.std.specs.Prelude.{Option as opt, None, Some, IfSome, OnSome, is_some, slice_get, slice_index, slice_set}
-use Rattle.std.proofs.lemmas.Bool.{eqb-true, eq-eqb, ne_eqb, and_parts, and_from, lt-ltb, ltb-true, cases_eq, cases_Bool, cond-true, cond-false}
-use Rattle.std.proofs.lemmas.List.{get_or-set_same, get_or-set_other, get_or_read}
+use Rattle.std.proofs.lemmas.Bool.{eqb-true, eq-eqb, and_parts, and_from, lt-ltb, ltb-true, cases_Bool, cond-true, cond-false}
+use Rattle.std.proofs.lemmas.List.{get_or-set_same, get_or_read}
 use Rattle.std.proofs.lemmas.Option.{slice_get_within, same_Some}
-use Rattle.std.proofs.Math.Bool.{and_comm, and-false}
+use Rattle.std.proofs.Math.Bool.{and_comm}
 use Rattle.atomic_table.specs.Table.{Me}
 use Rattle.atomic_table.specs.declared.shared.Seat.{Seat}
 use Rattle.brace_core.specs.declared.name.Name.{Name}
@@ -15,7 +15,7 @@ use Rattle.brace_core.proofs.LaneLemmas.{names_at_most}
 use Rattle.brace_lanes.specs.declared.table.View.{View}
 use Rattle.brace_lanes.specs.Places.{place, slot}
 use Rattle.brace_lanes.specs.Rule.{IsRightAt}
-use Rattle.brace_lanes.specs.Views.{raised, looked, claimed, has_put, has_taken}
+use Rattle.brace_lanes.specs.Views.{raised, claimed, has_put, has_taken}
 use Rattle.brace_lanes.specs.Seats.{OnSeat, count_at, puts_of, takes_of, seen_of, misses_of}
 use Rattle.brace_lanes.specs.inner.Sound.{IsSound}
 use Rattle.brace_lanes.specs.inner.Steps.{LooksAt, IsOut}

@@ -1,14 +1,11 @@
 -- Slots are apart, and who holds one.
-use Rattle.std.proofs.Common.{◌≡◌, ◌≢◌, ◌≤◌, ◌<◌, ◌+◌, ◌*◌, ◌%◌, ◌∙◌, ◌⊎◌, ℕ, List, [], ◌∷◌, ◌++◌, set, refl, sym, ap, inl, inr, arith, mul-le-mul_right}
-use Rattle.std.specs.Prelude.{Option as opt}
+use Rattle.std.proofs.Common.{◌≡◌, ◌≤◌, ◌<◌, ◌+◌, ◌*◌, ◌%◌, ◌∙◌, ℕ, List, [], ◌∷◌, ◌++◌, set, sym, ap, inl, inr, arith, mul-le-mul_right}
 use Rattle.std.proofs.lemmas.Bool.{cases_eq}
 use Rattle.std.proofs.lemmas.Nat.{mod_below}
 use mathlib.Core.Option.{some, some-injective}
 use lib.ListN.{get_elem?}
 use Rattle.atomic_table.specs.Table.{State}
 use Rattle.atomic_table.proofs.Lists.{set_else, at_longer}
-use Rattle.brace_core.specs.declared.name.Name.{Name}
-use Rattle.brace_core.specs.Schedule.{Schedule}
 use Rattle.brace_lanes.specs.declared.table.View.{View}
 use Rattle.brace_lanes.specs.declared.table.Hand.{Hand}
 use Rattle.brace_lanes.specs.declared.table.Hand.TheVariants.{Empty, ToPut, ToTake}

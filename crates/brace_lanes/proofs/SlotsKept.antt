@@ -1,12 +1,12 @@
 -- Each step keeps what the rule says of slots.
-use Rattle.std.proofs.Common.{◌≡◌, ◌≢◌, ◌≤◌, ◌<◌, ◌+◌, ◌*◌, ◌%◌, ◌∙◌, ◌⊎◌, ℕ, zero, suc, List, [], ◌∷◌, ◌++◌, length, map, set, replicate, refl, sym, ap, subst, inl, inr, arith}
-use Rattle.std.specs.Prelude.{Option as opt, None, Some, slice_index, slice_set}
+use Rattle.std.proofs.Common.{◌≡◌, ◌≢◌, ◌≤◌, ◌<◌, ◌+◌, ◌*◌, ◌∙◌, ◌⊎◌, ℕ, zero, suc, List, [], ◌∷◌, ◌++◌, length, map, set, replicate, refl, sym, ap, subst, inl, inr, arith}
+use Rattle.std.specs.Prelude.{Option as opt, None, Some, slice_set}
 use Rattle.std.proofs.lemmas.Bool.{cases_eq}
 use Rattle.std.proofs.lemmas.Option.{none-some}
 use Rattle.std.proofs.Math.Nat.{add-mod_right}
 use mathlib.Core.Option.{Option, some, none, some-injective, some-ne-none}
 use lib.ListN.{get_elem?}
-use Rattle.atomic_table.specs.Table.{State, opening as opened}
+use Rattle.atomic_table.specs.Table.{State}
 use Rattle.atomic_table.proofs.Lists.{set_else, set_here, one_turn}
 use Rattle.brace_core.specs.declared.name.Name.{Name}
 use Rattle.brace_core.specs.Schedule.{Schedule}
@@ -16,7 +16,7 @@ use Rattle.brace_lanes.specs.declared.table.Hand.TheVariants.{Empty, ToPut, ToTa
 use Rattle.brace_lanes.specs.Places.{place, slot, slot_count, word_count, put_of, taken_of}
 use Rattle.brace_lanes.specs.Views.{Serves, opening, splitting, newcomer}
 use Rattle.brace_lanes.specs.Rule.{KeptAmong, IsRightAt, IsFull, IsHeld, IsPutting, IsTaking, SlotsKept}
-use Rattle.brace_lanes.proofs.PlaceLemmas.{put_here, put_else, put_takes, taken_here, taken_else, taken_puts, place_below, same_place, apart}
+use Rattle.brace_lanes.proofs.PlaceLemmas.{put_here, put_else, put_takes, taken_here, taken_else, taken_puts, same_place, apart}
 use Rattle.brace_lanes.proofs.ViewLists.{each_after, at_end, view_here}
 use Rattle.brace_lanes.proofs.StepsKept.{two_at_most, zero_at}
 use Rattle.brace_lanes.proofs.SlotLemmas.{slot_below, slots_apart, same_put, same_take, put_or_take, idle_or_put, idle_or_take, held_after, held_more, one_place, one_seat}

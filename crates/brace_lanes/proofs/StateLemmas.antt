@@ -1,6 +1,6 @@
 -- A store of a lane's word is a turn of the exchange core.
-use Rattle.std.proofs.Common.{◌≡◌, ◌≢◌, ◌∙◌, ◌⊎◌, refl, sym, ap, subst, ℕ, ◌+◌, ◌*◌, ◌-◌, ◌<◌, ◌≤◌, Bool, true, false, cond, ◌==◌, ◌&&◌, IsTrue, List, [], ◌∷◌, ◌++◌, take, drop, length, Some, arith, inl, inr}
-use Rattle.std.specs.Prelude.{slice_index, slice_set, slice_get}
+use Rattle.std.proofs.Common.{◌≡◌, ◌≢◌, ◌∙◌, refl, sym, ap, subst, ℕ, ◌+◌, ◌-◌, ◌<◌, ◌≤◌, true, false, ◌==◌, List, [], ◌∷◌, ◌++◌, take, drop, length, Some, arith, inl, inr}
+use Rattle.std.specs.Prelude.{slice_index, slice_get}
 use Rattle.std.specs.List.{filter, list_any}
 use Rattle.std.proofs.lemmas.Bool.{eqb-true, eq-eqb, and_parts, and_from, cases_Bool, cond-true, cond-false}
 use Rattle.std.proofs.lemmas.List.{append-nil, length-take, length-take-le, length-drop, take_more, drop_more, drop-append-le, get_or-take}
@@ -12,7 +12,7 @@ use Rattle.atomic_table.specs.Table.{State}
 use Rattle.brace_core.specs.declared.name.Name.{Name}
 use Rattle.brace_core.specs.declared.name.Turn.TheVariants.{Put, Take}
 use Rattle.brace_core.specs.Schedule.{Schedule, lane}
-use Rattle.brace_core.specs.Events.{is_name, is_on, is_ready, without}
+use Rattle.brace_core.specs.Events.{is_name, is_on, without}
 use Rattle.brace_core.specs.Exchanges.{IsNext}
 use Rattle.brace_core.proofs.Runs.{without_first, without_elsewhere, first_in_flight}
 use Rattle.brace_lanes.specs.declared.table.View.{View}

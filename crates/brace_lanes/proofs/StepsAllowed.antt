@@ -1,11 +1,11 @@
 -- Each step is allowed by the whole rule, and tells its seat what it should.
-use Rattle.std.proofs.Common.{◌≡◌, ◌≢◌, ◌≤◌, ◌<◌, ◌+◌, ◌*◌, ◌-◌, ◌∙◌, ◌⊎◌, ℕ, List, [], ◌∷◌, ◌++◌, set, replicate, refl, sym, ap, subst, inl, inr, arith}
+use Rattle.std.proofs.Common.{◌≡◌, ◌≢◌, ◌<◌, ◌+◌, ◌*◌, ◌-◌, ◌∙◌, ℕ, List, [], ◌∷◌, set, replicate, refl, sym, ap, subst, inl, inr, arith}
 use Rattle.std.specs.Prelude.{◌==◌, Option as opt, None, Some, slice_index, slice_set}
 use Rattle.std.proofs.lemmas.Bool.{cases_eq, eq-eqb, ne_eqb, cond-true, cond-false}
 use Rattle.std.proofs.lemmas.List.{set-get_or}
 use mathlib.Core.Option.{Option, some, none}
 use lib.ListN.{get_elem?}
-use Rattle.atomic_table.specs.Table.{Me, State, step, Act, keeps, takes, gives, put_back, rest, Allows, Splits, opening as opened}
+use Rattle.atomic_table.specs.Table.{Me, State, step, keeps, takes, gives, put_back, rest, Allows, Splits, opening as opened}
 use Rattle.brace_core.specs.declared.name.Name.{Name}
 use Rattle.brace_core.specs.Schedule.{Schedule}
 use Rattle.brace_lanes.specs.declared.table.View.{View}
@@ -15,7 +15,7 @@ use Rattle.brace_lanes.specs.Views.{Serves, opening, raised, looked, claimed, ha
 use Rattle.brace_lanes.specs.Rule.{KeptAmong, IsRightAt, SlotsKept, IsKept}
 use Rattle.brace_lanes.specs.inner.Steps.{LooksAt, ClaimsAt, IsCarried, Looks, Claims, StoresPut, StoresTaken}
 use Rattle.brace_lanes.proofs.PlaceLemmas.{opposite_is, past_square}
-use Rattle.brace_lanes.proofs.StepsKept.{kept_at, kept_looked, look_low, kept_claimed, claim_level, kept_put, kept_taken, kept_split, kept_start, two_at_most}
+use Rattle.brace_lanes.proofs.StepsKept.{kept_at, kept_looked, look_low, kept_claimed, claim_level, kept_put, kept_taken, kept_split, kept_start}
 use Rattle.brace_lanes.proofs.SlotsKept.{look_slots, claim_slots, put_slots, take_slots, split_slots, idle_slots, start_slots}
 
 module _ {S : Type 0} where

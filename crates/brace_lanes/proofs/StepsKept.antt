@@ -1,20 +1,18 @@
 -- Each step keeps the rule.
-use Rattle.std.proofs.Common.{◌≡◌, ◌≢◌, ◌≤◌, ◌<◌, ◌+◌, ◌*◌, ◌%◌, ◌-◌, ◌∙◌, ◌⊎◌, ℕ, zero, suc, Bool, true, false, List, [], ◌∷◌, ◌++◌, cond, length, set, replicate, refl, sym, ap, subst, inl, inr, ⊎_elim, arith, length-set}
+use Rattle.std.proofs.Common.{◌≡◌, ◌≢◌, ◌≤◌, ◌<◌, ◌+◌, ◌*◌, ◌%◌, ◌∙◌, ℕ, zero, suc, Bool, true, false, List, [], ◌∷◌, ◌++◌, cond, length, set, replicate, refl, sym, ap, subst, inl, inr, arith, length-set}
 use Rattle.std.specs.Prelude.{slice_index, slice_set, ◌==◌}
-use Rattle.std.proofs.lemmas.List.{get_or-set_other, get_or-set_same, set-get_or}
-use mathlib.Core.Option.{some, none, some-injective, some-ne-none}
+use Rattle.std.proofs.lemmas.List.{get_or-set_other, get_or-set_same}
+use mathlib.Core.Option.{some, some-injective, some-ne-none}
 use mathlib.Core.Option as maybe
 use Rattle.brace_lanes.specs.declared.table.Hand.{Hand}
 use Rattle.brace_lanes.specs.declared.table.Hand.TheVariants.{ToPut, ToTake}
 use lib.ListN.{get_elem?, length-replicate}
-use Rattle.atomic_table.specs.Table.{Me, State, step, Act, keeps, Allows, Splits, opening as opened}
-use Rattle.atomic_table.proofs.Lists.{at_set, set_again}
+use Rattle.atomic_table.specs.Table.{State, step, keeps}
 use Rattle.brace_lanes.specs.declared.table.View.{View}
 use Rattle.brace_lanes.specs.Places.{place, opposite, word_count, put_of, taken_of}
 use Rattle.brace_lanes.specs.Views.{Serves, opening, raised, looked, claimed, has_put, has_taken, splitting, newcomer}
-use Rattle.brace_lanes.specs.Rule.{Fits, KeptAmong, IsKept, IsSquare}
-use Rattle.brace_lanes.specs.inner.Steps.{Looks, Claims, StoresPut, StoresTaken}
-use Rattle.brace_lanes.proofs.PlaceLemmas.{place_below, words_below, apart, opposite_is, past_square, same_place, put_here, put_else, put_takes, taken_here, taken_else, taken_puts}
+use Rattle.brace_lanes.specs.Rule.{Fits, KeptAmong}
+use Rattle.brace_lanes.proofs.PlaceLemmas.{place_below, words_below, apart, same_place, put_here, put_else, put_takes, taken_here, taken_else, taken_puts}
 use Rattle.brace_lanes.proofs.ViewLists.{each_after, alone_after, alone_more, at_end}
 
 pub zero_at : (m i : ℕ) → slice_index (replicate m 0) i ≡ 0

@@ -1,9 +1,9 @@
 -- The names of two actors that meet in each step, and what their seats know.
-use Rattle.std.proofs.Common.{◌≡◌, ◌≤◌, ◌<◌, ◌+◌, ◌%◌, ◌∙◌, ℕ, zero, suc, Bool, true, false, List, [], ◌∷◌, length, replicate, refl, sym, ap, subst, inl, inr, arith, true≢false}
+use Rattle.std.proofs.Common.{◌≡◌, ◌<◌, ◌+◌, ◌%◌, ◌∙◌, ℕ, zero, suc, Bool, true, false, ◌∷◌, length, replicate, refl, sym, ap, subst, inl, inr, arith, true≢false}
 use Rattle.std.specs.Prelude.{◌==◌, ◌&&◌, ◌||◌, Some, cond, slice_get}
 use Rattle.std.proofs.lemmas.Bool.{cases_Bool, and_from, and_parts, eq-eqb, eqb-true, cond-true, cond-false}
 use Rattle.brace_core.specs.declared.name.Name.{Name}
-use Rattle.brace_core.specs.Schedule.{Schedule, name, names_from, lane, meets}
+use Rattle.brace_core.specs.Schedule.{name, names_from, lane, meets}
 use Rattle.brace_core.specs.Exchanges.{one_on}
 use Rattle.brace_core.specs.Lanes.{AreBelow}
 use Rattle.brace_core.specs.Exchanges.{Follows, IsAnswered}

@@ -139,11 +139,5 @@ meaning k =
 abbrev scope : ℕ → Scope
 scope k = outermost (home_of (known (drifting k).tree.classes) 0 (particle k)) false
 
-first_sites : (program_of (drifting 0)).sites ≡ 48 ∷ []
-first_sites = ap (λ (m : Scope → Meaning Expr). (m (scope 0) []).1) (meaning 0)
-
-later_sites : (program_of (drifting 7)).sites ≡ 55 ∷ []
-later_sites = ap (λ (m : Scope → Meaning Expr). (m (scope 7) []).1) (meaning 7)
-
 one_program : program_at_0 (program_of (drifting 0)) ≡ program_at_0 (program_of (drifting 7))
 one_program = same_programs (drifting 0) (drifting 7) one_layout

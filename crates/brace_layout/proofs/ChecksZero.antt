@@ -142,10 +142,8 @@ typed_with_zero f g same (Err at) s h = ap (with_type g) h
 
 -- faults
 reads_zero : (n : Scope) (at : ℕ) (o : Option Named) → faults_at_0 (reads n at o) ≡ reads n 0 o
-reads_zero n at None = refl
-reads_zero n at (Some (named.Constant k t)) = refl
-reads_zero n at (Some (named.Field (field.State i t shared))) = refl
 reads_zero n at (Some (named.Field (field.Effect i t shared c))) = fault_zero n.in_query (ReadsEffectInQuery at) (ReadsEffectInQuery 0) refl
+reads_zero n at _ = refl
 
 pub crosses_zero : (n : Scope) (at : ℕ) (o : Option LoopField) → faults_at_0 (crosses n at o) ≡ crosses n 0 o
 crosses_zero n at None = refl
@@ -162,12 +160,10 @@ still : (x : Expr) → MeantZero itself (plain x) (plain x)
 still x = nothing_zero itself x x refl
 
 named_zero : (n : Scope) (at : ℕ) (o : Option Named) → MeantZero itself (named_as n at o) (named_as n 0 o)
-named_zero n at None = still _
-named_zero n at (Some (named.Constant i t)) = still _
-named_zero n at (Some (named.Field (field.State i t shared))) = still _
 named_zero n at (Some (named.Field (field.Effect i t shared c))) =
     let test : Bool = is_summed n (field.Effect i t shared c) in
     made_zero itself itself (expr.Total i t) (expr.Total i t) (λ o. refl) (site_if test at) (site_if test 0) (site_if_zero test at)
+named_zero n at _ = still _
 
 unary_zero : (test : Bool) (at : ℕ) (op : Option ℕ → Expr → Expr) (x y : Meaning Expr) → MeantZero itself x y → MeantZero itself (means.unary test at op x) (means.unary test 0 op y)
 unary_zero test at op x y h =
@@ -274,9 +270,8 @@ valued_zero want x n =
 
 -- what the checks look for
 assigns_zero : (at : ℕ) (o : Option Field) → faults_at_0 (assigns at o) ≡ assigns 0 o
-assigns_zero at None = refl
 assigns_zero at (Some (field.State i t shared)) = refl
-assigns_zero at (Some (field.Effect i t shared c)) = refl
+assigns_zero at _ = refl
 
 over_zero : (at : ℕ) (o : Option ℕ) → faults_at_0 (loops_over at o) ≡ loops_over 0 o
 over_zero at None = refl
@@ -422,9 +417,8 @@ abbrev share_at_0 : Share → Share
 share_at_0 s = record s { queries = map (map stmt_at_0) s.queries }
 
 gives_zero : (at : ℕ) (o : Option Field) → faults_at_0 (gives at o) ≡ gives 0 o
-gives_zero at None = refl
 gives_zero at (Some (field.State i t shared)) = refl
-gives_zero at (Some (field.Effect i t shared c)) = refl
+gives_zero at _ = refl
 
 gift_zero : (n : Scope) (g : GiftTree) → faults_at_0 (found.gift n g) ≡ found.gift n (gift_at_0 g)
 gift_zero n g =

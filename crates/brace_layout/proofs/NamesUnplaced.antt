@@ -65,10 +65,9 @@ if_site true at = refl
 if_site false at = refl
 
 reads_at : (n : Scope) (at : ℕ) (name : Ident) (o : Option Named) → zeroed (f.reads n at name o) ≡ f.reads n 0 (ident_at_0 name) o
-reads_at n at name None = refl
-reads_at n at name (Some (named.Constant k t)) = refl
 reads_at n at name (Some (named.Field x)) =
     both (f.names_as name.at (f.target_of x)) (f.site_if (f.is_summed n x) at) (f.names_as 0 (f.target_of x)) (f.site_if (f.is_summed n x) 0) refl (if_site (f.is_summed n x) at)
+reads_at n at name _ = refl
 
 loop_at : (variable name : Ident) (o : Option LoopField) → zeroed (f.names_of_loop variable name o) ≡ f.names_of_loop (ident_at_0 variable) (ident_at_0 name) o
 loop_at variable name None = refl
@@ -116,9 +115,7 @@ expression_unplaced = of_expression ExprUnplaced kinds
 -- statements
 pub typed_at : (type : TyName) → zeroed (f.typed type) ≡ f.typed (type_at_0 type)
 typed_at ty.Int = refl
-typed_at ty.Fixed = refl
-typed_at ty.Bool = refl
-typed_at (ty.Other name) = refl
+typed_at _ = refl
 
 declares_at : (n : Scope) (name : Ident) → zeroed (f.declares n name) ≡ f.declares n (ident_at_0 name)
 declares_at n name = walk.either finding_at_0 (is_taken n name.text) (f.fault (DuplicateName name.at)) [] (f.fault (DuplicateName 0)) [] refl refl
@@ -222,8 +219,6 @@ module _ (n : Scope) where
   rule_zero (Some x) = expression_unplaced x n
 
 member_zero : (home : Home) (x : MemberTree) → zeroed (names.member home x) ≡ names.member home (member_at_0 x)
-member_zero home (m.Visible range at) = refl
-member_zero home (m.Reach range at) = refl
 member_zero home (m.State shared type name x at) =
     let n : Scope = outermost home false in
     both (f.typed type) (names.rule x n) (f.typed (type_at_0 type)) (names.rule (option_map expr_at_0 x) n) (typed_at type) (rule_zero n x)
@@ -234,6 +229,7 @@ member_zero home (m.Spawn x gifts at) =
     let n : Scope = outermost home false in
     both (names.expression x n) (names.gifts_found n gifts at) (names.expression (expr_at_0 x) n) (names.gifts_found n (map gift_at_0 gifts) 0)
     (expression_unplaced x n) (spawned_zero n gifts at)
+member_zero home _ = refl
 
 -- fields
 module _ {A : Type 0} where

@@ -19,9 +19,7 @@ use Rattle.brace_names.proofs.StmtLemmas.{constants-cons}
 -- a type keeps its kind
 pub type_zero : (type : TyName) → type_named (type_at_0 type) ≡ type_named type
 type_zero tyname.Int = refl
-type_zero tyname.Fixed = refl
-type_zero tyname.Bool = refl
-type_zero (tyname.Other name) = refl
+type_zero _ = refl
 
 -- a statement and the same at place 0 declare the same
 pub record Declares {A : Type 0} (p0 p : Part A) : Type 0 where

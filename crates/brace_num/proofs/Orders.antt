@@ -102,11 +102,6 @@ module _ {X : Type 0} (key : X → ℕ) where
   filter_rises t xs up =
       keys_by_rises (filter t xs) (AllPairs-filter IsBelow t xs (rises_by_keys xs up))
 
-  pub filter_distinct : (t : X → Bool) (xs : List X) → IsDistinct nat_eq (map key xs)
-      → IsDistinct nat_eq (map key (filter t xs))
-  filter_distinct t xs apart =
-      differ_by_pairs (filter t xs) (AllPairs-filter Differs t xs (pairs_differ xs apart))
-
   -- ---- one order
 
   tail_rises : (x : X) (xs : List X) → Rises (x ∷ xs) → Rises xs

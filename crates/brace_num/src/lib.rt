@@ -23,7 +23,7 @@ pub use generator::Generator;
 pub use kinds::{Area, Kind};
 pub use list::List;
 pub use memory::NoMemory;
-pub use print::{print_count, print_fixed, print_int};
+pub use print::{print_count, print_fixed, print_int, print_wide_fixed};
 pub use read::{read_count, read_fixed, read_int};
 pub use steps::Steps;
 pub use text::Text;

@@ -1,5 +1,5 @@
 -- One agent more among those that are read.
-use Rattle.std.proofs.Common.{◌≡◌, ◌≤◌, ◌+◌, ◌∙◌, ℕ, Bool, true, false, ◌||◌, List, [], ◌∷◌, ◌++◌, length, Some, None, Ok, sym, refl, ap, ap₂, subst, arith, cond}
+use Rattle.std.proofs.Common.{◌≡◌, ◌≤◌, ◌+◌, ◌∙◌, ℕ, Bool, true, false, ◌||◌, List, [], ◌∷◌, ◌++◌, length, sym, refl, ap, ap₂, subst, arith, cond}
 use Rattle.std.specs.Prelude.{nat_eq, nat_lt, not}
 use Rattle.std.specs.BTreeSet as tree
 use Rattle.std.specs.BTreeSet.{BTreeSet}
@@ -15,8 +15,7 @@ use Rattle.std.proofs.lemmas.Map.Keys.{IsDistinct-push}
 use Rattle.brace_model.specs.declared.world.Agent.{Agent}
 use Rattle.brace_model.specs.World.{ids}
 use Rattle.brace_model.specs.Step.{most_agents, most_values, count_values}
-use Rattle.brace_rows.specs.declared.kinds.RowKind.TheVariants.{DuplicateId, TooMany}
-use Rattle.brace_rows.specs.AgentFile.{are_too_many, fault_behind}
+use Rattle.brace_rows.specs.AgentFile.{are_too_many}
 
 -- the set has the ids of the agents
 abbrev pub Knows : BTreeSet ℕ → List Agent → Type 0
@@ -59,11 +58,6 @@ pub many_more : (agents : List Agent) (a : Agent) (values : ℕ) → values ≡ 
     → are_too_many (agents ++ a ∷ []) ≡ (nat_lt most_agents (length agents + 1) || nat_lt most_values (values + length a.states))
 many_more agents a values counted =
     ap₂ (λ n m. nat_lt most_agents n || nat_lt most_values m) (length_push agents a) (counted_more agents a ∙ ap (λ m. m + length a.states) (sym counted))
-
--- the fault of an agent, by the two tests
-pub fault_of_agent : (agents : List Agent) (a : Agent) (known many : Bool) → list_any (nat_eq a.id) (ids agents) ≡ known → are_too_many (agents ++ a ∷ []) ≡ many
-    → cond known (Some DuplicateId) (cond many (Some TooMany) None) ≡ fault_behind agents (Ok a)
-fault_of_agent agents a known many k m = sym (ap₂ (λ p q. cond p (Some DuplicateId) (cond q (Some TooMany) None)) k m)
 
 pub negated : (b c : Bool) → b ≡ not c → c ≡ not b
 negated true true e = absurd cc

@@ -1,6 +1,6 @@
 -- The first faulty record of a file, found by reading the records in turn.
 use Rattle.std.proofs.Common.{◌≡◌, ◌≤◌, ◌<◌, ◌+◌, ◌-◌, ◌∙◌, ℕ, suc, Result, Err, List, [], ◌∷◌, ◌++◌, length, take, Option, Some, None, sym, refl, ap, ap₂, subst, arith, append-nil, append_assoc, length-append, get_or}
-use Rattle.std.specs.Prelude.{filter_map, slice_get, option_map}
+use Rattle.std.specs.Prelude.{slice_get, option_map}
 use Rattle.std.proofs.Math.Seq.{take-append_seam, get_or-append_seam}
 use Rattle.std.proofs.Common.{⊎_elim}
 use Rattle.std.proofs.lemmas.Bool.{cases_lt}

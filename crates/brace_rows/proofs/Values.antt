@@ -1,8 +1,7 @@
 -- The values of a record's fields, read in turn.
-use Rattle.std.proofs.Common.{◌≡◌, ◌≤◌, ◌<◌, ◌+◌, ◌∙◌, ℕ, false, List, [], ◌∷◌, ◌++◌, length, take, drop, map, zip, get_or, Option, Some, None, Ok, Err, sym, refl, ap, ap₂, subst, arith, cond, ltb, append-nil}
+use Rattle.std.proofs.Common.{◌≡◌, ◌≤◌, ◌<◌, ◌+◌, ◌∙◌, ℕ, false, List, [], ◌∷◌, ◌++◌, length, take, drop, map, zip, get_or, Option, Some, None, Ok, Err, sym, refl, ap, ap₂, subst, arith, cond, ltb, append-nil, ⊎_elim}
 use Rattle.std.specs.Prelude.{filter_map, is_none, position}
 use Rattle.std.specs.List.{position_or_len}
-use Rattle.std.proofs.Common.{⊎_elim}
 use Rattle.std.proofs.lemmas.Bool.{cases_lt, lt-ltb}
 use Rattle.std.proofs.lemmas.Bool.Decides.{nat_tests}
 use Rattle.csv.specs.Records.{field_at}

@@ -1,6 +1,6 @@
 -- The lines of a text: no line of a checkpoint holds a byte 10, so the text has just these lines.
 use Rattle.std.proofs.Common.{◌≡◌, ◌∙◌, ℕ, suc, ◌+◌, ◌-◌, ◌^◌, ◌<◌, ◌≤◌, List, [], ◌∷◌, ◌++◌, length, take, drop, map, flat_map, get_or, ltb, Bool, true, false, Option, Some, None, refl, sym, ap, ap₂, subst, arith, append-nil, append_assoc, inl, inr}
-use Rattle.std.specs.Prelude.{◌&&◌, ◌==◌, not, codes, option_map, slice_get, unwrap_or}
+use Rattle.std.specs.Prelude.{◌&&◌, ◌==◌, not, codes, option_map, slice_get, unwrap_or, nat_le}
 use Rattle.std.specs.List.{All, AllByRecursion, list_all, join_with_byte}
 use Rattle.std.proofs.lemmas.Bool.{cases_Bool, false≢true, and_parts}
 use Rattle.std.proofs.lemmas.Bool.Decides.{nat_tests}
@@ -20,7 +20,6 @@ use Rattle.brace_model.specs.World.{class_of}
 use Rattle.brace_model.specs.Step.{greatest_id}
 use Rattle.brace_model.specs.Lawful.{LawfulProgram, has_states, is_lawful_agent}
 use Rattle.brace_model.specs.Published.{spelled, class_name, agent_text}
-use Rattle.std.specs.Prelude.{nat_le}
 use Rattle.brace_save.specs.Lines.{parts, whole_lines, unfinished}
 use Rattle.brace_save.specs.Texts.{Moment, IsMoment, type_name, state_text, class_line, count_line, end_line, heading, lines, text, value_fits}
 use Rattle.brace_save.proofs.ReadBack.{Free, count_free, name_free, no_feed, values_free}
@@ -47,8 +46,7 @@ name_one name h = free_one name (name_free name h)
 
 type_one : (t : Ty) → one_line (type_name t) ≡ true
 type_one ty.Int = refl
-type_one ty.Fixed = refl
-type_one ty.Bool = refl
+type_one _ = refl
 
 state_one : (s : State) → is_name s.name ≡ true → one_line (state_text s) ≡ true
 state_one s h = both_one (32 ∷ s.name) (58 ∷ type_name s.ty) (name_one s.name h) (type_one s.ty)

@@ -217,12 +217,7 @@ starts src wanted _ rest _ (g.spawn a b word when opening closing x xs e e1 e2 e
 
 pub some_tokens : (src : List ℕ) (a : List Token) (x : MemberTree) → ReadsMember src a x → 0 < length a
 some_tokens src _ _ (g.visible word opening range closing semicolon n e e1 e2 e3 e4) = omega arith
-some_tokens src _ _ (g.reach word opening range closing semicolon n e e1 e2 e3 e4) = omega arith
-some_tokens src _ _ (g.public a word x e r) = omega arith
-some_tokens src _ _ (g.private a word x e r) = omega arith
-some_tokens src _ _ (g.run a word void run opening closing xs e e1 e2 e3 e4 r) = omega arith
-some_tokens src _ _ (g.die a word when semicolon x e e1 e2 r) = omega arith
-some_tokens src _ _ (g.spawn a b word when opening closing x xs e e1 e2 e3 r rs) = omega arith
+some_tokens src _ _ _ = omega arith
 
 members_from-found : (src : List ℕ) (n : ℕ) (found : List MemberTree) (b rest : List Token) (closing : Token) (xs : List MemberTree) → length b < n → Is k.CloseBrace closing → ReadsMembers src b xs
     → d.members_from n found (at src (b ++ closing ∷ rest)) ≡ Ok (found ++ xs, at src rest)

@@ -18,7 +18,7 @@ use Rattle.brace_syntax.specs.inner.Cursor.{Input, Parser, Outcome, kind, next, 
 use Rattle.brace_syntax.specs.Reads as g
 use Rattle.brace_syntax.specs.Reads.{Row, ReadsExpr, operands, repeats}
 use Rattle.brace_syntax.specs.inner.Descent as d
-use Rattle.brace_syntax.specs.inner.Descent.{climb, where_some}
+use Rattle.brace_syntax.specs.inner.Descent.{climb}
 use Rattle.brace_syntax.proofs.Inversions.{not_eaten}
 use Rattle.brace_syntax.proofs.Forward.{at, then_, if_true, if_false, where_found, where_none, sees_it, after_it, expects, names, numbers}
 use Rattle.brace_syntax.proofs.Levels.{level, begins, height, not_next, none_next, ends_row, joins_row, lower, no_compares, some_comparison}
@@ -220,19 +220,7 @@ module _ (src : List ℕ) (depth : ℕ) (f : Start → Parser ExprTree) (hf : Fi
       let long : length a + length b + 1 ≤ suc depth = omega (arith, l, length-append a (op ∷ b)) in
       let w = climbs row inner table operand hc hin hrep hop a (op ∷ b ++ rest) x (omega (arith, long)) (joins_row row inner op.kind name hin e') r in
       one_turn table operand a b rest op name x y w.left (sym (hrep op.kind) ∙ e') (hop b rest y (omega (arith, long)) h (subst (λ (z : Row). ReadsExpr src z b y) same_row r')) w.enough w.same
-  climbs _ inner table operand hc hin hrep hop _ rest _ l h (g.compared a b op name x y e r r') = absurd (cc)
-  climbs _ inner table operand hc hin hrep hop _ rest _ l h (g.chosen a b c question colon w x y e e' r r' r'') = absurd (cc)
-  climbs _ inner table operand hc hin hrep hop _ rest _ l h (g.prefix a op name x e r) = absurd (cc)
-  climbs _ inner table operand hc hin hrep hop _ rest _ l h (g.literal tok n e) = absurd (cc)
-  climbs _ inner table operand hc hin hrep hop _ rest _ l h (g.truth tok e) = absurd (cc)
-  climbs _ inner table operand hc hin hrep hop _ rest _ l h (g.falsity tok e) = absurd (cc)
-  climbs _ inner table operand hc hin hrep hop _ rest _ l h (g.enclosed a opening closing x e e' r) = absurd (cc)
-  climbs _ inner table operand hc hin hrep hop _ rest _ l h (g.of_this this dot word e e' e'') = absurd (cc)
-  climbs _ inner table operand hc hin hrep hop _ rest _ l h (g.named word e) = absurd (cc)
-  climbs _ inner table operand hc hin hrep hop _ rest _ l h (g.of_loop loop dot word e e' e'') = absurd (cc)
-  climbs _ inner table operand hc hin hrep hop _ rest _ l h (g.called_one a word opening closing called x e e' e'' r) = absurd (cc)
-  climbs _ inner table operand hc hin hrep hop _ rest _ l h (g.called_two a b word opening comma closing called x y e e' e'' e''' r r') = absurd (cc)
-  climbs _ inner table operand hc hin hrep hop _ rest _ l h (g.random word opening closing e e' e'') = absurd (cc)
+  climbs _ inner table operand hc hin hrep hop _ rest _ l h _ = absurd (cc)
 
   stops : (table : TokKind → Option BinName) (operand : Parser ExprTree) (n : ℕ) (x : ExprTree) (rest : List Token) → option_and_then table (kind (at src rest)) ≡ None → climb f table operand n x (at src rest) ≡ Ok (x, at src rest)
   unfolding climb
@@ -296,17 +284,7 @@ some_tokens src _ _ _ (g.alone row inner a x e r) = some_tokens src inner a x r
 some_tokens src _ _ _ (g.joined row inner a b op name x y e e' r r') = omega (arith, length-append a (op ∷ b))
 some_tokens src _ _ _ (g.compared a b op name x y e r r') = omega (arith, length-append a (op ∷ b))
 some_tokens src _ _ _ (g.chosen a b c question colon w x y e e' r r' r'') = omega (arith, length-append (a ++ question ∷ b) (colon ∷ c))
-some_tokens src _ _ _ (g.prefix a op name x e r) = omega arith
-some_tokens src _ _ _ (g.literal tok n e) = omega arith
-some_tokens src _ _ _ (g.truth tok e) = omega arith
-some_tokens src _ _ _ (g.falsity tok e) = omega arith
-some_tokens src _ _ _ (g.enclosed a opening closing x e e' r) = omega arith
-some_tokens src _ _ _ (g.of_this this dot word e e' e'') = omega arith
-some_tokens src _ _ _ (g.named word e) = omega arith
-some_tokens src _ _ _ (g.of_loop loop dot word e e' e'') = omega arith
-some_tokens src _ _ _ (g.called_one a word opening closing called x e e' e'' r) = omega arith
-some_tokens src _ _ _ (g.called_two a b word opening comma closing called x y e e' e'' e''' r r') = omega arith
-some_tokens src _ _ _ (g.random word opening closing e e' e'') = omega arith
+some_tokens src _ _ _ _ = omega arith
 
 expr-found : (src : List ℕ) (depth : ℕ) (start : Start) → Finds src depth (d.expr depth start) (row_at start)
 unfolding d.expr

@@ -37,25 +37,7 @@ where_none {A = A} o found missing i r e done = ap (λ (z : Option A). where_som
 
 mark_of_kind : (wanted : Mark) → mark_of (kind_of wanted) ≡ Some wanted
 mark_of_kind m.Class = refl
-mark_of_kind m.Run = refl
-mark_of_kind m.Extent = refl
-mark_of_kind m.Else = refl
-mark_of_kind m.When = refl
-mark_of_kind m.OpenBrace = refl
-mark_of_kind m.CloseBrace = refl
-mark_of_kind m.OpenParen = refl
-mark_of_kind m.CloseParen = refl
-mark_of_kind m.OpenBracket = refl
-mark_of_kind m.CloseBracket = refl
-mark_of_kind m.Semicolon = refl
-mark_of_kind m.Colon = refl
-mark_of_kind m.Comma = refl
-mark_of_kind m.Dot = refl
-mark_of_kind m.Question = refl
-mark_of_kind m.Assign = refl
-mark_of_kind m.Arrow = refl
-mark_of_kind m.Less = refl
-mark_of_kind m.Greater = refl
+mark_of_kind _ = refl
 
 same_mark_self : (wanted : Mark) → same_mark wanted wanted ≡ true
 unfolding same_mark

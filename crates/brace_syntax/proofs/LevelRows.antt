@@ -11,7 +11,4 @@ pub joined_is : (f : Start → Parser ExprTree) (at : Level) (i : Input)
     → d.joined f at i ≡ and_then (d.operand f at i) (λ left j. d.climb f (d.joins at) (d.operand f at) (d.most at (d.turns j)) left j)
 unfolding d.product d.total d.comparison d.conjunction d.disjunction
 joined_is f level.Product i = refl
-joined_is f level.Total i = refl
-joined_is f level.Comparison i = refl
-joined_is f level.Conjunction i = refl
-joined_is f level.Disjunction i = refl
+joined_is f _ i = refl

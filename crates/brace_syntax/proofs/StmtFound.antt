@@ -109,12 +109,7 @@ starts src wanted _ rest _ (g.assign_loop a loop dot name arrow semicolon x e _ 
 
 pub some_tokens : (src : List ℕ) (a : List Token) (x : StmtTree) → ReadsStmt src a x → 0 < length a
 some_tokens src _ _ (g.const a word type name equals semicolon t x _ _ _ _ _ _) = omega arith
-some_tokens src _ _ (g.when a b word opening closing x block _ _ _ _ _) = omega arith
-some_tokens src _ _ (g.either_way a b c word opening closing otherwise x block other _ _ _ _ _ _ _) = omega arith
-some_tokens src _ _ (g.foreach a word opening class variable colon extent less other greater closing block _ _ _ _ _ _ _ _ _ _ _) = omega arith
-some_tokens src _ _ (g.assign_this a this dot name arrow semicolon x _ _ _ _ _ _) = omega arith
-some_tokens src _ _ (g.assign a name arrow semicolon x _ _ _ _) = omega arith
-some_tokens src _ _ (g.assign_loop a loop dot name arrow semicolon x _ _ _ _ _ _) = omega arith
+some_tokens src _ _ _ = omega arith
 
 no_else_kind : (src : List ℕ) (closing : Token) (rest : List Token) → Is k.CloseBrace closing → kind (at src (closing ∷ rest)) ≡ Some k.KwElse → ⊥
 unfolding kind first

@@ -1,6 +1,6 @@
 -- Where the parser stops stands the first token that no script has there, or the source ends.
 use Rattle.std.proofs.Common.{◌≡◌, refl, sym, ap, subst, ◌∙◌, ℕ, ◌+◌, ◌<◌, ◌≤◌, List, [], ◌∷◌, ◌++◌, length, take, drop, slice_get, arith, inl, inr, append_assoc, append-nil, take_at, take-append-drop}
-use Rattle.std.specs.Prelude.{◌≢◌, Some, Ok, Err}
+use Rattle.std.specs.Prelude.{◌≢◌, Some, Err}
 use Rattle.std.proofs.lemmas.List.{take-append-le, append_cancel_left}
 use Rattle.std.proofs.lemmas.Option.{same_Some}
 use Rattle.brace_tok.specs.declared.kinds.Token.{Token}
@@ -42,9 +42,8 @@ same_front low high (t ∷ a) l (u ∷ b) m r c p =
     ap (λ (z : Token). z ∷ a) (ap (first_or t) c) ∙ ap (λ (z : List Token). u ∷ z) (same_front t.to high a l b m r.2 (ap (drop 1) c) p)
 
 abbrev offset : Outcome Tree → ℕ
-offset (Ok p) = 0
-offset (Err stop.NoMemory) = 0
 offset (Err (stop.NoReading at_)) = at_
+offset _ = 0
 
 refused_at : (src : List ℕ) (left : List Token) → offset (Err (refusal (at src left))) ≡ place_at (length src) left
 unfolding refusal place first

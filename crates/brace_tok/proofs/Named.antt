@@ -10,7 +10,7 @@ use Rattle.std.proofs.Math.Seq.{drop-append_seam, take-append_seam}
 use Rattle.std.proofs.lemmas.Bool.{and_parts, and_from, not-true}
 use Rattle.brace_num.specs.Names.{is_word, is_among, is_name, reserved_words}
 use Rattle.brace_tok.specs.Tables.{found, words, directives, symbols, reserved, directive, symbol}
-use Rattle.brace_tok.specs.Pieces.{Piece, blank, line_comment, block_comment, word, whole, fraction, hash, sign, open_comment, stray, bytes_of, is_formed, ends_before}
+use Rattle.brace_tok.specs.Pieces.{Piece, word, whole, fraction, hash, sign, bytes_of, is_formed, ends_before}
 use Rattle.brace_tok.specs.Roles.{Role, nothing, token, refused, role_at, token_or, word_kind, name_or, whole_kind, fixed_kind, millionths}
 use Rattle.brace_tok.specs.Spells.{text_of, is_row, token_at, tokens_from, Spells}
 use Rattle.brace_tok.specs.Names.{IsNamed}
@@ -112,9 +112,6 @@ some_or_none true k j e = cc
 some_or_none false k j e = absurd (cc)
 
 role_name : (at_ : ℕ) (p : Piece) → is_formed p ≡ true → role_at at_ p ≡ token kind.Word → IsTrue (is_name (bytes_of p))
-role_name at_ (blank x) e f = absurd (cc)
-role_name at_ (line_comment x) e f = absurd (cc)
-role_name at_ (block_comment x) e f = absurd (cc)
 role_name at_ (word letters) e f = word_name letters e (said_kind (fault.LongWord at_) (word_kind letters) kind.Word f)
 role_name at_ (whole x) e f =
     let other : kind.Int (pos (digits_value 10 x)) ≡ kind.Word = some_or_none _ _ _ (said_kind (fault.WideLiteral at_) (whole_kind x) kind.Word f) in absurd (cc)
@@ -122,8 +119,7 @@ role_name at_ (fraction x y) e f =
     let other : kind.Fixed (pos (millionths x y)) ≡ kind.Word = some_or_none _ _ _ (said_kind (fault.WideLiteral at_) (fixed_kind x y) kind.Word f) in absurd (cc)
 role_name at_ (hash x) e f = absurd (directive_other x kind.Word (said_kind (fault.BadByte at_) (directive x) kind.Word f) refl)
 role_name at_ (sign x) e f = absurd (symbol_other x kind.Word (said_kind (fault.BadByte at_) (symbol x) kind.Word f) refl)
-role_name at_ (open_comment x) e f = absurd (cc)
-role_name at_ (stray x) e f = absurd (cc)
+role_name at_ _ e f = absurd (cc)
 
 none_named : (src : List ℕ) → All (IsNamed src) []
 none_named src k d h = absurd (omega arith)

@@ -1,14 +1,13 @@
 -- A row of pieces grows at its end.
-use Rattle.std.proofs.Common.{◌≡◌, ℕ, ◌+◌, ◌-◌, ◌<◌, ◌≤◌, Bool, true, ◌&&◌, List, [], ◌∷◌, ◌++◌, length, drop, refl, sym, ap, subst, ◌∙◌, arith, append_assoc, length-append, add-zero, Option, Some, None, is_some, ◌⊎◌, inl, inr}
+use Rattle.std.proofs.Common.{◌≡◌, ℕ, ◌+◌, ◌-◌, ◌<◌, ◌≤◌, Bool, true, ◌&&◌, List, [], ◌∷◌, ◌++◌, length, drop, refl, sym, ap, subst, ◌∙◌, arith, append_assoc, length-append, add-zero, Option, Some, None, is_some, ◌⊎◌, inl, inr, length-take}
 use Rattle.std.proofs.lemmas.List.{take-append-drop}
-use Rattle.std.proofs.Common.{length-take}
 use Rattle.std.proofs.lemmas.Bool.{and_parts, and_from}
-use Rattle.brace_tok.specs.Pieces.{Piece, blank, line_comment, block_comment, word, whole, fraction, hash, sign, open_comment, stray, bytes_of, is_formed}
+use Rattle.brace_tok.specs.Pieces.{Piece, word, whole, fraction, hash, sign, bytes_of, is_formed}
 use Rattle.brace_num.specs.Names.{begins, is_digit, is_letter}
 use Rattle.brace_tok.specs.Tables.{symbol, directive}
 use Rattle.brace_tok.specs.Roles.{nothing, token, refused, role_at, token_or, word_kind, whole_kind, fixed_kind}
 use Rattle.brace_tok.specs.Spells.{text_of, is_sound, is_longest, is_row, token_at, tokens_from, FirstFault}
-use Rattle.brace_tok.specs.inner.Steps.{Stands, StepIs, HasEnd, Passes}
+use Rattle.brace_tok.specs.inner.Steps.{Stands, StepIs, Passes}
 use Rattle.brace_tok.specs.Answers.{IsFault}
 use Rattle.brace_tok.specs.declared.kinds.Token.{Token}
 use Rattle.brace_tok.specs.declared.kinds.TokKind.{TokKind}
@@ -53,16 +52,12 @@ sound_or a b None = refl
 sound_or a b (Some k) = refl
 
 pub sound_anywhere : (a b : ℕ) (p : Piece) → is_sound (role_at a p) ≡ is_sound (role_at b p)
-sound_anywhere a b (blank x) = refl
-sound_anywhere a b (line_comment x) = refl
-sound_anywhere a b (block_comment x) = refl
 sound_anywhere a b (word x) = sound_or (fault.LongWord a) (fault.LongWord b) (word_kind x)
 sound_anywhere a b (whole x) = sound_or (fault.WideLiteral a) (fault.WideLiteral b) (whole_kind x)
 sound_anywhere a b (fraction x y) = sound_or (fault.WideLiteral a) (fault.WideLiteral b) (fixed_kind x y)
 sound_anywhere a b (hash x) = sound_or (fault.BadByte a) (fault.BadByte b) (directive x)
 sound_anywhere a b (sign x) = sound_or (fault.BadByte a) (fault.BadByte b) (symbol x)
-sound_anywhere a b (open_comment x) = refl
-sound_anywhere a b (stray x) = refl
+sound_anywhere a b _ = refl
 
 -- the text before `rest` is a row without a fault, and its tokens are these
 abbrev pub Read : List ℕ → List ℕ → List Token → Type 0
@@ -117,11 +112,8 @@ fault_step src rest toks at_ f r e (p, n, stands, says_) =
     (r.0, p, drop n rest, r.1 ∙ ap (λ t. text_of r.0 ++ t) cut, sym (ap (is_row r.0) cut) ∙ r.2, stands.longest, subst (λ k. role_at k p ≡ refused f) place says_)
 
 pub as_fault : (src : List ℕ) (f : TokFault) → FirstFault src f → IsFault src f
-as_fault src (fault.BadByte n) first = first
-as_fault src (fault.OpenComment n) first = first
-as_fault src (fault.WideLiteral n) first = first
-as_fault src (fault.LongWord n) first = first
 as_fault src fault.NoMemory first = tt
+as_fault src _ first = first
 
 begins_some : (kind : ℕ → Bool) (text : List ℕ) → begins kind text ≡ true → 0 < length text
 begins_some kind [] e = absurd (cc)
@@ -133,16 +125,11 @@ symbol_some [] e = absurd (cc)
 symbol_some (b ∷ marks) e = omega arith
 
 pub formed_some : (p : Piece) → is_formed p ≡ true → 0 < length (bytes_of p)
-formed_some (blank x) e = omega arith
-formed_some (line_comment x) e = omega arith
-formed_some (block_comment x) e = omega arith
 formed_some (word x) e = begins_some is_letter x ((and_parts _ _ e).0)
 formed_some (whole x) e = begins_some is_digit x ((and_parts _ _ e).0)
 formed_some (fraction x y) e = omega (arith, length-append x (46 ∷ y))
-formed_some (hash x) e = omega arith
 formed_some (sign x) e = symbol_some x e
-formed_some (open_comment x) e = omega arith
-formed_some (stray x) e = omega arith
+formed_some _ e = omega arith
 
 stands_some : (text : List ℕ) (p : Piece) (n : ℕ) → Stands text p n → 0 < n
 stands_some text p n s = omega (arith, stands_length text p n s, formed_some p ((and_parts _ _ s.longest).0))

@@ -4,16 +4,11 @@ use Rattle.std.proofs.Math.Numerals.{sub-one}
 use Rattle.std.proofs.lemmas.Bool.{ne_eqb}
 use Rattle.brace_num.specs.Names.{begins}
 use Rattle.brace_num.proofs.Booleans.{and_false, or_false}
-use Rattle.brace_tok.specs.Bytes.{begins_close, has_close}
+use Rattle.brace_tok.specs.Bytes.{has_close}
 
 pub or-assoc : (a b c : Bool) → (a || (b || c)) ≡ ((a || b) || c)
 or-assoc true b c = refl
 or-assoc false b c = refl
-
-pub begins-drop : (kind : ℕ → Bool) (text : List ℕ) (n : ℕ) → n < length text → begins kind (drop n text) ≡ kind (get_or text n 0)
-begins-drop kind [] n h = absurd (omega arith)
-begins-drop kind (b ∷ text) zero h = refl
-begins-drop kind (b ∷ text) (suc n) h = begins-drop kind text n (omega arith)
 
 pub begins-end : (kind : ℕ → Bool) (text : List ℕ) → begins kind (drop (length text) text) ≡ false
 begins-end kind [] = refl
@@ -26,12 +21,6 @@ close_next (x ∷ []) n h = absurd (omega arith)
 close_next (x ∷ y ∷ text) zero h = rw (and_false (y == 42), and_false (x == 42), or_false (x == 42 && y == 47)) refl
 close_next (x ∷ y ∷ text) (suc n) h =
     ap (λ v. (x == 42 && y == 47) || v) (close_next (y ∷ text) n (omega arith)) ∙ or-assoc (x == 42 && y == 47) (has_close (take (suc n) (y ∷ text))) (get_or (y ∷ text) n 0 == 42 && get_or (y ∷ text) (suc n) 0 == 47)
-
-pub close_here : (text : List ℕ) (n : ℕ) → suc n < length text → begins_close (drop n text) ≡ (get_or text n 0 == 42 && get_or text (suc n) 0 == 47)
-close_here [] n h = absurd (omega arith)
-close_here (x ∷ []) n h = absurd (omega arith)
-close_here (x ∷ y ∷ text) zero h = refl
-close_here (x ∷ y ∷ text) (suc n) h = close_here (y ∷ text) n (omega arith)
 
 pub both_false : (a b : Bool) → a ≡ false → b ≡ false → (a || b) ≡ false
 both_false false b p q = q

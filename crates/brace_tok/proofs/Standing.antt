@@ -1,8 +1,7 @@
 -- Which piece stands at the head of a text, from what a scan found there.
-use Rattle.std.proofs.Common.{◌≡◌, ℕ, zero, suc, ◌+◌, ◌<◌, ◌≤◌, Bool, true, false, not, ◌||◌, List, [], ◌∷◌, ◌++◌, length, take, drop, get_or, refl, sym, ap, subst, ◌∙◌, arith, ◌==◌, Option, Some, None, is_some}
+use Rattle.std.proofs.Common.{◌≡◌, ℕ, zero, suc, ◌+◌, ◌<◌, ◌≤◌, Bool, true, false, not, ◌||◌, List, [], ◌∷◌, ◌++◌, length, take, drop, get_or, refl, sym, ap, subst, ◌∙◌, arith, ◌==◌, Option, Some, None, is_some, length-drop, take_all}
 use Rattle.std.proofs.Math.Seq.{take-add}
 use Rattle.std.proofs.lemmas.List.{drop-drop}
-use Rattle.std.proofs.Common.{length-drop, take_all}
 use Rattle.std.proofs.lemmas.Bool.{eqb-true, and_parts, and_from, both_ways}
 use Rattle.brace_num.specs.Names.{is_digit, is_letter, is_word_byte, begins}
 use Rattle.brace_num.proofs.Booleans.{and_false}
@@ -80,8 +79,6 @@ hash_stands (b ∷ text) n e run =
 
 pub line_stands : (text : List ℕ) (n : ℕ) → begins (λ b. b == 47) text ≡ true → begins (λ b. b == 47) (drop 1 text) ≡ true
     → IsRun (λ b. not (b == 10)) (drop 2 text) n → Stands text (line_comment (take n (drop 2 text))) (2 + n)
-line_stands [] n p q run = absurd (cc)
-line_stands (a ∷ []) n p q run = absurd (cc)
 line_stands (a ∷ b ∷ text) n p q run =
     let m : suc (suc n) ≡ 2 + n = omega arith in
     let there : Stands (a ∷ b ∷ text) (line_comment (take n text)) (suc (suc n)) = record {
@@ -90,6 +87,7 @@ line_stands (a ∷ b ∷ text) n p q run =
       longest = and_from _ _ run.1 (not_false _ run.2);
     } in
     subst (λ k. Stands (a ∷ b ∷ text) (line_comment (take n text)) k) m there
+line_stands _ n p q run = absurd (cc)
 
 close_bytes : (text : List ℕ) → begins_close text ≡ true → take 2 text ≡ 42 ∷ 47 ∷ []
 close_bytes [] e = absurd (cc)
@@ -98,8 +96,6 @@ close_bytes (a ∷ b ∷ text) e = ap (λ v. v ∷ b ∷ []) (eqb-true a 42 ((an
 
 pub block_stands : (text : List ℕ) (n : ℕ) → begins (λ b. b == 47) text ≡ true → begins (λ b. b == 42) (drop 1 text) ≡ true
     → IsClosed (drop 2 text) (Some n) → Stands text (block_comment (take n (drop 2 text))) (2 + n + 2)
-block_stands [] n p q close = absurd (cc)
-block_stands (a ∷ []) n p q close = absurd (cc)
 block_stands (a ∷ b ∷ text) n p q close =
     let m : suc (suc (n + 2)) ≡ 2 + n + 2 = omega arith in
     let there : Stands (a ∷ b ∷ text) (block_comment (take n text)) (suc (suc (n + 2))) = record {
@@ -109,6 +105,7 @@ block_stands (a ∷ b ∷ text) n p q close =
       longest = and_from _ _ (not_false _ close.1) refl;
     } in
     subst (λ k. Stands (a ∷ b ∷ text) (block_comment (take n text)) k) m there
+block_stands _ n p q close = absurd (cc)
 
 pub open_stands : (text : List ℕ) → begins (λ b. b == 47) text ≡ true → begins (λ b. b == 42) (drop 1 text) ≡ true
     → IsClosed (drop 2 text) None → Stands text (open_comment (drop 2 text)) (length text)
@@ -130,13 +127,12 @@ begins_none kind none [] = refl
 begins_none kind none (b ∷ text) = none b
 
 pub pair_stands : (text : List ℕ) (k : _) → pair_of text ≡ Some k → begins_comment text ≡ false → Stands text (sign (take 2 text)) 2
-pair_stands [] k e f = absurd (cc)
-pair_stands (a ∷ []) k e f = absurd (cc)
 pair_stands (a ∷ b ∷ text) k e f = record {
   within = omega arith;
   bytes = refl;
   longest = and_from _ _ (ap is_some e) (and_from _ _ (not_false _ (begins_none _ (λ c. ap is_some (three_none a b c)) text)) (not_false _ f));
 }
+pair_stands _ k e f = absurd (cc)
 
 no_pair : (b : ℕ) (text : List ℕ) → pair_of (b ∷ text) ≡ None → begins (λ c. is_some (symbol (b ∷ c ∷ []))) text ≡ false
 no_pair b [] e = refl
@@ -168,9 +164,8 @@ pub refused_as : (f : TokFault) (meaning : List ℕ → Option TokKind) (a b : L
 refused_as f meaning a b e same = ap (token_or f) (ap meaning (sym same) ∙ sym e)
 
 pub said_pair : (f : TokFault) (text : List ℕ) (k : TokKind) → pair_of text ≡ Some k → token_or f (symbol (take 2 text)) ≡ token k
-said_pair f [] k e = absurd (cc)
-said_pair f (a ∷ []) k e = absurd (cc)
 said_pair f (a ∷ b ∷ text) k e = ap (token_or f) e
+said_pair f _ k e = absurd (cc)
 
 pub said_two : (f : TokFault) (meaning : List ℕ → List ℕ → Option TokKind) (a b c d : List ℕ) (k : TokKind)
     → Some k ≡ meaning a c → a ≡ b → c ≡ d → token_or f (meaning b d) ≡ token k

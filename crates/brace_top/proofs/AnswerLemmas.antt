@@ -30,7 +30,7 @@ use Rattle.brace_top.specs.Limits.{agents_limit}
 use Rattle.brace_top.specs.declared.script_fault.ScriptFault.{ScriptFault}
 use Rattle.brace_top.specs.declared.script_fault.ScriptFault.TheVariants as script_fault
 use Rattle.brace_top.specs.declared.status.Status.{Status}
-use Rattle.brace_top.specs.declared.status.Status.TheVariants.{Done, Usage, Script, Agents, Plan, Checkpoint, Fault, ReadFault, WriteFault, SaveFault, NoMemory, Absent, Differs, Watches}
+use Rattle.brace_top.specs.declared.status.Status.TheVariants.{Done, Usage, Script, Agents, Fault, ReadFault, WriteFault, SaveFault, NoMemory}
 use Rattle.brace_top.specs.declared.prepare.Work.{Work}
 use Rattle.brace_top.specs.declared.prepare.Work.TheVariants as work
 use Rattle.brace_top.specs.declared.task.Task.{Task}
@@ -38,7 +38,7 @@ use Rattle.brace_top.specs.declared.command.RunCommand.{RunCommand as CodeRun}
 use Rattle.brace_top.specs.Answer.{ShelfCall, SinkCall, shelf_call, sink_call, Among, HasSaved, LeavesAll, LeavesFront, IsEnd, IsAnswer, StopsShelf, CountsShelf, CountsReads, CountsWrites}
 use Rattle.brace_top.specs.Commands.{Command, RunCommand, TrialCommand, Run, Trial, is_anew, command_of, may_save, workers_of, workers_asked}
 use Rattle.brace_top.specs.Messages.{usage_message, write_fault_message, no_memory_message}
-use Rattle.brace_top.specs.Outcome.{Outcome, Refusal, TrialProgram, ProgramOf, refusal, refused, loaded, ComesTo, refused_at, stands_for, unless_faulty, world_from, agents_of, BeginsAt, plan_of, watches_of, saves_of, setting_of, ran, RunOver, RunFrom, FollowedBy, RunOutcome, CommandOutcome, Reads, reads_plan, reads_watch}
+use Rattle.brace_top.specs.Outcome.{Outcome, Refusal, TrialProgram, ProgramOf, refusal, refused, loaded, ComesTo, refused_at, stands_for, unless_faulty, world_from, agents_of, BeginsAt, plan_of, watches_of, saves_of, setting_of, ran, RunOver, FollowedBy, RunOutcome, CommandOutcome, Reads, reads_plan, reads_watch}
 use Rattle.brace_top.specs.Savings.{Saving, with_saved}
 use Rattle.brace_top.specs.Status.{has_run}
 use Rattle.brace_top.specs.inner.Settled.{is_work, is_plain_work, stopped_status, stopped_message, status_in, message_in, IsOf, IsRefusedAs, IsScriptRefused, IsRecordRefused, refuses_file, is_stop, GivesNothing, IsLoaded, IsUnloaded, IsStopped, IsCarriedOut, IsWritten, IsRunOf, IsServed, outcome_of}
@@ -54,18 +54,8 @@ nothing_as : (of_ to_ : Files → Refusal → Type 0) (name : List ℕ) (shelf :
     → GivesNothing of_ name shelf message status → GivesNothing to_ name shelf message status
 nothing_as of_ to_ name shelf message ReadFault up is = is
 nothing_as of_ to_ name shelf message NoMemory up is = is
-nothing_as of_ to_ name shelf message Done up is = absurd (let e = is.stops in cc)
-nothing_as of_ to_ name shelf message Usage up is = absurd (let e = is.stops in cc)
-nothing_as of_ to_ name shelf message Fault up is = absurd (let e = is.stops in cc)
-nothing_as of_ to_ name shelf message WriteFault up is = absurd (let e = is.stops in cc)
-nothing_as of_ to_ name shelf message SaveFault up is = absurd (let e = is.stops in cc)
-nothing_as of_ to_ name shelf message Script up is = record { stops = refl; found = λ files told. up files _ (is.found files told) }
-nothing_as of_ to_ name shelf message Agents up is = record { stops = refl; found = λ files told. up files _ (is.found files told) }
-nothing_as of_ to_ name shelf message Plan up is = record { stops = refl; found = λ files told. up files _ (is.found files told) }
-nothing_as of_ to_ name shelf message Checkpoint up is = record { stops = refl; found = λ files told. up files _ (is.found files told) }
-nothing_as of_ to_ name shelf message Absent up is = record { stops = refl; found = λ files told. up files _ (is.found files told) }
-nothing_as of_ to_ name shelf message Differs up is = record { stops = refl; found = λ files told. up files _ (is.found files told) }
-nothing_as of_ to_ name shelf message Watches up is = record { stops = refl; found = λ files told. up files _ (is.found files told) }
+nothing_as of_ to_ name shelf message _ up is =
+    record { stops = is.stops; found = λ files told. up files _ (is.found files told) }
 
 -- what is not loaded does not give what may be made of it
 pub unloaded_as : {A B : Type 0} (of_ : Files → Result A Refusal → Type 0) (to_ : Files → Result B Refusal → Type 0) (name : List ℕ) (shelf : ShelfCall) (stopped : Stopped)
@@ -84,37 +74,19 @@ unloaded_later of_shelf comes_to name s m t stopped held faults is = rw (held, f
 -- a refusal of a file gives nothing
 refusing : (P : Files → Refusal → Type 0) (name : List ℕ) (shelf : ShelfCall) (message : List ℕ) (status : Status) → refuses_file status ≡ true
     → ((files : Files) → shelf.held ≡ Some files → P files (record { status = status; message = message })) → GivesNothing P name shelf message status
-refusing P name shelf message Script r found = record { stops = refl; found = found }
-refusing P name shelf message Agents r found = record { stops = refl; found = found }
-refusing P name shelf message Plan r found = record { stops = refl; found = found }
-refusing P name shelf message Checkpoint r found = record { stops = refl; found = found }
-refusing P name shelf message Absent r found = record { stops = refl; found = found }
-refusing P name shelf message Differs r found = record { stops = refl; found = found }
-refusing P name shelf message Watches r found = record { stops = refl; found = found }
 refusing P name shelf message ReadFault r found = absurd cc
 refusing P name shelf message NoMemory r found = absurd cc
-refusing P name shelf message Done r found = absurd cc
-refusing P name shelf message Usage r found = absurd cc
-refusing P name shelf message Fault r found = absurd cc
-refusing P name shelf message WriteFault r found = absurd cc
-refusing P name shelf message SaveFault r found = absurd cc
+refusing P name shelf message _ r found = record { stops = r; found = found }
 
 -- no read failed where a file is refused
 refusing_counts : (shelf : ShelfCall) (status : Status) → refuses_file status ≡ true → shelf.faults_after ≡ shelf.faults_before → CountsShelf shelf status
-refusing_counts shelf Script r same = same
-refusing_counts shelf Agents r same = same
-refusing_counts shelf Plan r same = same
-refusing_counts shelf Checkpoint r same = same
-refusing_counts shelf Absent r same = same
-refusing_counts shelf Differs r same = same
-refusing_counts shelf Watches r same = same
 refusing_counts shelf ReadFault r same = absurd cc
 refusing_counts shelf NoMemory r same = absurd cc
 refusing_counts shelf Done r same = absurd cc
-refusing_counts shelf Usage r same = absurd cc
 refusing_counts shelf Fault r same = absurd cc
 refusing_counts shelf WriteFault r same = absurd cc
 refusing_counts shelf SaveFault r same = absurd cc
+refusing_counts shelf _ r same = same
 
 -- an answer that refuses a file as it is owed
 answer_unloads : {A : Type 0} (comes_to : Files → Result A Refusal → Type 0) (name : List ℕ) (shelf : ShelfCall) (status : Status) (message : List ℕ) (a : Answer)
@@ -145,9 +117,8 @@ pub refusal_unloads : {A : Type 0} (comes_to : Files → Result A Refusal → Ty
     → refuses_file status ≡ true → shelf.faults_after ≡ shelf.faults_before → IsRefusedAs status message stopped
     → ((files : Files) → shelf.held ≡ Some files → comes_to files (Err (record { status = status; message = message }))) → IsUnloaded comes_to name shelf stopped
 refusal_unloads comes_to name shelf status message (stopped_is.Refused a) r same is found = answer_unloads comes_to name shelf status message a r same is.ends is.says found
-refusal_unloads comes_to name shelf status message stopped_is.Usage r same is found = absurd is
-refusal_unloads comes_to name shelf status message stopped_is.WriteFault r same is found = absurd is
 refusal_unloads comes_to name shelf status message stopped_is.NoMemory r same is found = memory_unloads comes_to name shelf
+refusal_unloads comes_to name shelf status message _ r same is found = absurd is
 
 -- a script that means something
 pub script_loaded : {A : Type 0} (means : List ℕ → A → Type 0) (refuses : List ℕ → ScriptFault → Type 0) (source : Files → Result (List ℕ) Refusal) (name src : List ℕ) (shelf : ShelfCall) (a : A)
@@ -181,18 +152,7 @@ nothing_stops : (P : Files → Refusal → Type 0) (name : List ℕ) (shelf : Sh
     → GivesNothing P name shelf message status → is_stop status ≡ true
 nothing_stops P name shelf message ReadFault is = refl
 nothing_stops P name shelf message NoMemory is = refl
-nothing_stops P name shelf message Done is = is.stops
-nothing_stops P name shelf message Usage is = is.stops
-nothing_stops P name shelf message Script is = is.stops
-nothing_stops P name shelf message Agents is = is.stops
-nothing_stops P name shelf message Plan is = is.stops
-nothing_stops P name shelf message Checkpoint is = is.stops
-nothing_stops P name shelf message Fault is = is.stops
-nothing_stops P name shelf message WriteFault is = is.stops
-nothing_stops P name shelf message SaveFault is = is.stops
-nothing_stops P name shelf message Absent is = is.stops
-nothing_stops P name shelf message Differs is = is.stops
-nothing_stops P name shelf message Watches is = is.stops
+nothing_stops P name shelf message _ is = is.stops
 
 -- a refusal that is an outcome of the command
 refusal_answer : (files : Files) (command : Option Command) (shelf : ShelfCall) (out : SinkCall) (message : List ℕ) (status : Status)
@@ -208,25 +168,13 @@ stops : (P : Files → Refusal → Type 0) (name : List ℕ) (command : Option C
     → GivesNothing P name shelf message status → IsStopped command shelf message status
 stops P name command shelf message ReadFault reads up is files out told held same = record { one = name; is = reads files told refl; holds = is }
 stops P name command shelf message NoMemory reads up is files out told held same = record { leaves = inl (record { unwritten = same; unsaved = held }); says = is }
-stops P name command shelf message Script reads up is files out told held same =
-    refusal_answer files command shelf out message Script (up files _ told (is.found files told)) (record { ends = refl; gained = same; holds = held ∙ told; says = refl })
-stops P name command shelf message Agents reads up is files out told held same =
-    refusal_answer files command shelf out message Agents (up files _ told (is.found files told)) (record { ends = refl; gained = same; holds = held ∙ told; says = refl })
-stops P name command shelf message Plan reads up is files out told held same =
-    refusal_answer files command shelf out message Plan (up files _ told (is.found files told)) (record { ends = refl; gained = same; holds = held ∙ told; says = refl })
-stops P name command shelf message Checkpoint reads up is files out told held same =
-    refusal_answer files command shelf out message Checkpoint (up files _ told (is.found files told)) (record { ends = refl; gained = same; holds = held ∙ told; says = refl })
-stops P name command shelf message Absent reads up is files out told held same =
-    refusal_answer files command shelf out message Absent (up files _ told (is.found files told)) (record { ends = refl; gained = same; holds = held ∙ told; says = refl })
-stops P name command shelf message Differs reads up is files out told held same =
-    refusal_answer files command shelf out message Differs (up files _ told (is.found files told)) (record { ends = refl; gained = same; holds = held ∙ told; says = refl })
-stops P name command shelf message Watches reads up is files out told held same =
-    refusal_answer files command shelf out message Watches (up files _ told (is.found files told)) (record { ends = refl; gained = same; holds = held ∙ told; says = refl })
 stops P name command shelf message Done reads up is files out told held same = absurd (let e = is.stops in cc)
-stops P name command shelf message Usage reads up is files out told held same = absurd (let e = is.stops in cc)
 stops P name command shelf message Fault reads up is files out told held same = absurd (let e = is.stops in cc)
 stops P name command shelf message WriteFault reads up is files out told held same = absurd (let e = is.stops in cc)
 stops P name command shelf message SaveFault reads up is files out told held same = absurd (let e = is.stops in cc)
+stops P name command shelf message status reads up is files out told held same =
+    refusal_answer files command shelf out message status (up files _ told (is.found files told))
+    (record { ends = refl; gained = same; holds = held ∙ told; says = refl })
 
 -- a file that gives nothing stops a command, which reads it where its status says that a read failed
 pub stop_before : {S A : Type 0} (of_shelf : shelf_trait.Ghosts S) (command : Command) (s t : S)
@@ -288,10 +236,9 @@ stopped_serves of_shelf of_sink command s t o e is = record {
 -- no read fails where a script is refused
 pub script_unread : (name src : List ℕ) (fault : ScriptFault) (stopped : Stopped) → IsScriptRefused name src fault stopped → stopped_status stopped ≡ ReadFault → ⊥
 script_unread name src (script_fault.Refused kind at) (stopped_is.Refused a) is e = let f : Script ≡ ReadFault = sym is.ends ∙ e in absurd cc
-script_unread name src (script_fault.Refused kind at) stopped_is.Usage is e = absurd is
-script_unread name src (script_fault.Refused kind at) stopped_is.WriteFault is e = absurd is
 script_unread name src (script_fault.Refused kind at) stopped_is.NoMemory is e = absurd cc
 script_unread name src script_fault.NoMemory stopped is e = let f : NoMemory ≡ ReadFault = sym (ap stopped_status is) ∙ e in absurd cc
+script_unread name src (script_fault.Refused kind at) _ is e = absurd is
 
 -- ---- a command that is carried out
 
@@ -303,41 +250,18 @@ among_as these all fact up a = record { one = a.one; is = up a.one a.is; holds =
 carried_as : (files : Files) (these all : Outcome → Type 0) (shelf : ShelfCall) (out : SinkCall) (message : List ℕ) (status : Status) → ((o : Outcome) → these o → all o)
     → IsCarriedOut files these shelf out message status → IsCarriedOut files all shelf out message status
 carried_as files these all shelf out message ReadFault up is = is
-carried_as files these all shelf out message WriteFault up is = among_as these all _ up is
-carried_as files these all shelf out message SaveFault up is = among_as these all _ up is
 carried_as files these all shelf out message NoMemory up is = record { leaves = leaves_as is.leaves; says = is.says }
   where
     leaves_as : LeavesAll shelf out ⊎ Among these (LeavesFront files shelf out) → LeavesAll shelf out ⊎ Among all (LeavesFront files shelf out)
     leaves_as (inl none) = inl none
     leaves_as (inr a) = inr (among_as these all (LeavesFront files shelf out) up a)
-carried_as files these all shelf out message Done up is = among_as these all _ up is
-carried_as files these all shelf out message Usage up is = among_as these all _ up is
-carried_as files these all shelf out message Script up is = among_as these all _ up is
-carried_as files these all shelf out message Agents up is = among_as these all _ up is
-carried_as files these all shelf out message Plan up is = among_as these all _ up is
-carried_as files these all shelf out message Checkpoint up is = among_as these all _ up is
-carried_as files these all shelf out message Fault up is = among_as these all _ up is
-carried_as files these all shelf out message Absent up is = among_as these all _ up is
-carried_as files these all shelf out message Differs up is = among_as these all _ up is
-carried_as files these all shelf out message Watches up is = among_as these all _ up is
+carried_as files these all shelf out message _ up is = among_as these all _ up is
 
 -- what was carried out for the outcomes of a command answers it
 carried_answer : (files : Files) (command : Option Command) (shelf : ShelfCall) (out : SinkCall) (message : List ℕ) (status : Status)
     → IsCarriedOut files (CommandOutcome files command) shelf out message status → IsAnswer files command shelf out message status
 carried_answer files command shelf out message ReadFault is = absurd is
-carried_answer files command shelf out message WriteFault is = is
-carried_answer files command shelf out message SaveFault is = is
-carried_answer files command shelf out message NoMemory is = is
-carried_answer files command shelf out message Done is = is
-carried_answer files command shelf out message Usage is = is
-carried_answer files command shelf out message Script is = is
-carried_answer files command shelf out message Agents is = is
-carried_answer files command shelf out message Plan is = is
-carried_answer files command shelf out message Checkpoint is = is
-carried_answer files command shelf out message Fault is = is
-carried_answer files command shelf out message Absent is = is
-carried_answer files command shelf out message Differs is = is
-carried_answer files command shelf out message Watches is = is
+carried_answer files command shelf out message _ is = is
 
 -- what was carried out for outcomes of a command answers it
 answers : (these : Outcome → Type 0) (files : Files) (command : Option Command) (shelf : ShelfCall) (out : SinkCall) (message : List ℕ) (status : Status)

@@ -19,12 +19,10 @@ use Rattle.brace_top.specs.Outcome.{Outcome, Refusal, FollowedBy, refusal, refus
 
 -- what is told of an answer; of a failure and of want of memory nothing
 abbrev pub told_of : List ℕ → Result Unit AuditFault → Result (Option Fault) Refusal
-told_of name (Ok u) = Ok None
 told_of name (Err (found.Fault f)) = Ok (Some f)
 told_of name (Err (found.Differs row)) = Err (record { status = Differs; message = row_message name row })
 told_of name (Err found.Absent) = Err (refusal Absent name (codes ": absent"))
-told_of name (Err found.Failed) = Ok None
-told_of name (Err found.NoMemory) = Ok None
+told_of name _ = Ok None
 
 told_judged : (name : List ℕ) (row : Option ℕ) (end : Result World Fault) → unless_differs name (result_err end) row ≡ told_of name (judged row end)
 told_judged name (Some row) end = refl
@@ -43,12 +41,9 @@ is_found (Err found.NoMemory) = false
 is_found answer = true
 
 right_found : (answer right : Result Unit AuditFault) → is_found answer ≡ true → IsRight answer right → right ≡ answer
-right_found (Ok u) right f is = is
-right_found (Err found.Absent) right f is = is
-right_found (Err (found.Differs row)) right f is = is
-right_found (Err (found.Fault fault)) right f is = is
 right_found (Err found.Failed) right f is = absurd cc
 right_found (Err found.NoMemory) right f is = absurd cc
+right_found _ right f is = is
 
 -- what an audit answers is what the file comes to that the shelf holds
 pub told_as : (held : Option Files) (files : Files) (name : List ℕ) (job : Job) (answer given : Result Unit AuditFault) → held ≡ Some files

@@ -50,16 +50,14 @@ use Rattle.brace_top.specs.inner.Settled.{stopped_status, stopped_message, statu
 use Rattle.brace_top.proofs.SavedLemmas.{text_of, listed, files_of, no_files_of, saving_of, saving_in, saved_by, saved_by-append, saves_none, StandsIn, stand_in, calls_save}
 use Rattle.brace_top.proofs.SettleLemmas.{counts_told, both_none, name_in, no_name, told_gives, unsaved_gives, stop_gives, stopped_gives, settled_gives, settled_work, settled_plain}
 use Rattle.brace_top.proofs.StatusLemmas.{work_reads}
+use Rattle.brace_io.proofs.WholeLemmas.{with_piece-twice}
+use Rattle.brace_num.proofs.Lists.{at_seam}
 
 -- ---- what a publisher is behind some calls
 
 pub piece_none : (written : Option (List ℕ)) → written ≡ with_piece written []
 piece_none None = refl
 piece_none (Some bytes) = ap Some (sym (append-nil bytes))
-
-piece_twice : (written : Option (List ℕ)) (a b : List ℕ) → with_piece (with_piece written a) b ≡ with_piece written (a ++ b)
-piece_twice None a b = refl
-piece_twice (Some bytes) a b = ap Some (append_assoc bytes a b)
 
 held_listed : (text : List ℕ) (file : Option Named) (held : Option Files) (files : Files) → held ≡ Some files → held_after file held ≡ Some (with_saved files (saving_in text (listed file)))
 held_listed text None held files is = is
@@ -101,7 +99,7 @@ is_after s x (c ∷ cs) =
     record {
       saves = h.saves;
       fresh = h.fresh;
-      written = h.written ∙ piece_twice x.filed.written piece (flat_map (text_of s x.filed.fresh) cs);
+      written = h.written ∙ with_piece-twice x.filed.written piece (flat_map (text_of s x.filed.fresh) cs);
       held = λ text files is.
           let one : List Saving = saving_in (text ++ piece) (files_of s (saves_by x) x.filed.fresh c) in
           h.held (text ++ piece) (with_saved files one)
@@ -117,10 +115,6 @@ item_at : {A : Type 0} (xs : List A) (n : ℕ) (x : A) → slice_get xs n ≡ So
 item_at [] n x is = absurd (cc)
 item_at (y ∷ xs) zero x is = let same : y ≡ x = cc in (xs, ap (λ z. z ∷ xs) same)
 item_at (y ∷ xs) (suc n) x is = item_at xs n x is
-
-seam : {A : Type 0} (xs : List A) (y : A) (ys : List A) → slice_get (xs ++ y ∷ ys) (length xs) ≡ Some y
-seam [] y ys = refl
-seam (x ∷ xs) y ys = seam xs y ys
 
 -- a front of a text was written
 front_of : (before after : Option (List ℕ)) (a rest text : List ℕ) → text ≡ a ++ rest → Gains before after a → GainsFront before after text
@@ -292,7 +286,7 @@ module _ (s : Setting) (lawful : LawfulSetting s) (up : s.job.first ≤ s.job.la
           let more : List ℕ = flat_map piece rest in
           let gained : Gains out.before out.after (text n ++ take k rows) =
           h.sink_after ∙ was ∙ ap₂ (λ (l : Option (List ℕ)) (b : Bool). with_piece l (take k (shown_text s.job b c.worlds))) made.written made.fresh
-          ∙ piece_twice x.filed.written (text n) (take k rows) ∙ ap (λ l. with_piece l (text n ++ take k rows)) (sym h.sink_before) in
+          ∙ with_piece-twice x.filed.written (text n) (take k rows) ∙ ap (λ l. with_piece l (text n ++ take k rows)) (sym h.sink_before) in
           let is : its.out ≡ (text n ++ take k rows) ++ (drop k rows ++ more) =
           out_at rest dropped ∙ ap (λ l. text n ++ (l ++ more)) (sym (take-append-drop k rows)) ∙ ap (λ l. text n ++ l) (append_assoc (take k rows) (drop k rows) more)
           ∙ sym (append_assoc (text n) (take k rows) (drop k rows ++ more)) in
@@ -327,7 +321,7 @@ module _ (s : Setting) (lawful : LawfulSetting s) (up : s.job.first ≤ s.job.la
             half = record {
               count = length done;
               saving = saving;
-              is_next = ap (λ (l : List Saving). slice_get l (length done)) is ∙ seam done saving tail;
+              is_next = ap (λ (l : List Saving). slice_get l (length done)) is ∙ at_seam done saving tail;
               gained = gained;
               stops = subst (λ (l : List Saving). StopsAt (Some (with_saved files l)) shelf.held_after shelf.stage file) (sym first) (h.stops c front file behind of before done told stops);
             };
@@ -346,7 +340,7 @@ module _ (s : Setting) (lawful : LawfulSetting s) (up : s.job.first ≤ s.job.la
       rows_gained is =
           let made = is_later n in
           h.sink_after ∙ is ∙ ap₂ (λ (l : Option (List ℕ)) (b : Bool). with_piece l (shown_text s.job b c.worlds)) made.written made.fresh
-          ∙ piece_twice x.filed.written (text n) rows ∙ ap (λ l. with_piece l text_up) (sym h.sink_before)
+          ∙ with_piece-twice x.filed.written (text n) rows ∙ ap (λ l. with_piece l text_up) (sym h.sink_before)
 
       -- its checkpoint was not saved
       at_checkpoint : (file : Option Named) → checkpoint ≡ file → Gains out.before out.after text_up → StopsAtAny (after n).filed.held y.filed.held y.filed.stage file → HasStopped file
@@ -405,8 +399,7 @@ halted_at before after stage (Some file) stops = (file.0, stops.stops)
 halted_by : (x : PubFault) (k : ℕ) → tick_of x ≡ Some k → (w : Watching) (s : Setting) (c : Call) (v : Watching) → IsCut w s c.tick c.worlds x v → (name : List ℕ) × StoppedAt v.filed.held v.filed.stage name
 halted_by (refusal.Save j) k at w s c v cut = halted_at w.filed.held v.filed.held v.filed.stage (saved_file w.filed.save s c.tick c.worlds) cut.leaves.stops
 halted_by (refusal.Watch j) k at w s c v cut = halted_at (after_epoch w.filed s c.tick c.worlds).held v.filed.held v.filed.stage (figures_file w s c.tick c.worlds) cut.leaves.stops
-halted_by refusal.Write k at w s c v cut = absurd (cc)
-halted_by refusal.NoMemory k at w s c v cut = absurd (cc)
+halted_by _ k at w s c v cut = absurd (cc)
 
 module _ {P : Type 0} (state : P → Watching) (writes saves : P → ℕ) (loans : P → List ℕ) (fits : P → Program → Type 0) (s : Setting) (stats : Bool) (shelf : ShelfCall) (out : SinkCall)
     (opening now : P) (counts : Publishes (watching state writes saves loans fits) out opening now) where

@@ -12,12 +12,8 @@ use Rattle.brace_rows.specs.MadeAgents.{is_four_fixed}
 -- the types of four states
 four_are : (states : List State) → length states ≡ 4
     → list_all (λ (s : State). same_type s.ty ty.Fixed) states ≡ pointwise same_type (map (λ (s : State). s.ty) states) (ty.Fixed ∷ ty.Fixed ∷ ty.Fixed ∷ ty.Fixed ∷ [])
-four_are [] four = absurd (omega (arith, four))
-four_are (a ∷ []) four = absurd (omega (arith, four))
-four_are (a ∷ b ∷ []) four = absurd (omega (arith, four))
-four_are (a ∷ b ∷ c ∷ []) four = absurd (omega (arith, four))
 four_are (a ∷ b ∷ c ∷ d ∷ []) four = refl
-four_are (a ∷ b ∷ c ∷ d ∷ e ∷ more) four = absurd (omega (arith, four))
+four_are _ four = absurd (omega (arith, four))
 
 -- the first class of a program, where it has four states
 pub first_is_fixed : (classes : List Class) (class : Class) (states : List State) → slice_get classes 0 ≡ Some class → states ≡ class.states → length states ≡ 4

@@ -2,12 +2,13 @@
 use Rattle.std.proofs.Common.{◌≡◌, ◌∙◌, refl, sym, ap, ℕ, List, [], ◌∷◌, map, Bool, true, false, ◌&&◌, ◌||◌, ◌==◌}
 use Rattle.std.specs.Prelude.{not, nat_le, length, if◌then◌else◌}
 use Rattle.std.specs.List.{list_all, list_any}
-use Rattle.std.proofs.lemmas.Bool.{and_parts}
+use Rattle.std.proofs.lemmas.Bool.{and_parts, not-true}
 use Rattle.brace_words.specs.Values.{is_fate, is_loss, is_link}
 use Rattle.brace_wire.specs.declared.fate.Fate.{Fate}
 use Rattle.brace_wire.specs.declared.fate.Fate.TheVariants.{Lose, Deliver, Twice, After}
 use Rattle.brace_wire.specs.Shown.{is_lost}
 use Rattle.brace_top.specs.inner.Fates.{fate_of}
+use Rattle.brace_num.proofs.Booleans.{or_true}
 
 abbrev is_kept : Fate → Bool
 is_kept fate = not (is_lost fate)
@@ -29,10 +30,6 @@ not_all : (letters : List ℕ) → list_all is_loss letters ≡ false → list_a
 not_all [] some = absurd cc
 not_all (letter ∷ letters) some = by_first (is_loss letter) refl (not_all letters)
   where
-    or_true : (b : Bool) → (b || true) ≡ true
-    or_true true = refl
-    or_true false = refl
-
     by_first : (b : Bool) → is_loss letter ≡ b → (list_all is_loss letters ≡ false → list_any is_kept (map fate_of letters) ≡ true) → list_any is_kept (map fate_of (letter ∷ letters)) ≡ true
     by_first true lost rest =
         let others = rest (ap (λ (b : Bool). b && list_all is_loss letters) (sym lost) ∙ some) in
@@ -42,8 +39,4 @@ not_all (letter ∷ letters) some = by_first (is_loss letter) refl (not_all lett
 pub link_delivers : (letters : List ℕ) → is_link letters ≡ true → list_any is_kept (map fate_of letters) ≡ true
 link_delivers letters link =
     let fates = (and_parts (nat_le (length letters) 16) (list_all is_fate letters && not (list_all is_loss letters)) link).1 in
-    not_all letters (no_losses (list_all is_loss letters) (and_parts (list_all is_fate letters) (not (list_all is_loss letters)) fates).1)
-  where
-    no_losses : (b : Bool) → not b ≡ true → b ≡ false
-    no_losses true none = absurd cc
-    no_losses false none = refl
+    not_all letters (not-true (list_all is_loss letters) (and_parts (list_all is_fate letters) (not (list_all is_loss letters)) fates).1)

@@ -4,8 +4,8 @@ use Rattle.std.specs.Prelude.{flat_map}
 use Rattle.std.specs.List.{range_with_len}
 use Rattle.std.proofs.lemmas.List.Folds.{flat_map-map}
 use Rattle.std.proofs.lemmas.List.Concat.{flat_map-append}
-use Rattle.std.proofs.lemmas.List.FromFn.{map-range_with_len_more}
 use Rattle.std.proofs.lemmas.List.{append-nil, append_assoc}
+use Rattle.brace_num.proofs.Rows.{row_joined}
 use Rattle.brace_model.specs.declared.program.Who.{Who}
 use Rattle.brace_model.specs.declared.program.Expr.{Expr}
 use Rattle.brace_model.specs.declared.program.Stmt.{Stmt}
@@ -53,11 +53,8 @@ pub ruleset remotes_rules = (remotes_in-Const, remotes_in-If, remotes_in-Foreach
 from_more : {A : Type 0} (f : ℕ → List A) (a n j : ℕ) → a + n ≡ j
     → flat_map f (range_with_len a (n + 1)) ≡ flat_map f (range_with_len a n) ++ f j
 from_more f a n j e =
-    sym (flat_map-map (λ xs. xs) f (range_with_len a (n + 1)))
-    ∙ ap (flat_map (λ xs. xs)) (map-range_with_len_more f a n j e)
-    ∙ flat_map-append (λ xs. xs) (map f (range_with_len a n)) (f j ∷ [])
-    ∙ ap (λ t. t ++ (f j ++ [])) (flat_map-map (λ xs. xs) f (range_with_len a n))
-    ∙ ap (λ t. flat_map f (range_with_len a n) ++ t) (append-nil (f j))
+    ap (flat_map f) (sym (row_joined a n 1)) ∙ flat_map-append f (range_with_len a n) ((a + n) ∷ [])
+    ∙ ap (λ t. flat_map f (range_with_len a n) ++ t) (append-nil (f (a + n)) ∙ ap f e)
 
 -- one number more behind a list
 pub numbered_next : {A : Type 0} (f : ℕ → List A) (n : ℕ) (before all next : List A)

@@ -1,5 +1,5 @@
 -- A command over files has at most one status, one text, one list of saved files, and one message.
-use Rattle.std.proofs.Common.{◌≡◌, ◌∙◌, refl, sym, ap, ap₂, subst, ℕ, ◌+◌, ◌<◌, ℤ, List, [], map, Bool, true, false, codes, slice_get, Option, Some, None, Result, Ok, Err, arith}
+use Rattle.std.proofs.Common.{◌≡◌, ◌∙◌, refl, sym, ap, ap₂, subst, ℕ, ◌+◌, ◌<◌, ℤ, List, [], map, true, false, codes, slice_get, Option, Some, None, Result, Ok, Err, arith}
 use Rattle.std.specs.Prelude.{⊤}
 use Rattle.brace_io.specs.Shelves.{Files}
 use Rattle.brace_tok.specs.declared.kinds.Token.{Token}
@@ -87,11 +87,8 @@ message_of name src NoMemory = []
 -- ---- tokens, depth and grammar
 
 first_of_tokens : (src : List ℕ) (f : TokFault) → IsTold (token_fault f) → IsFault src f → FirstFault src f
-first_of_tokens src (tok.BadByte at) t r = r
-first_of_tokens src (tok.OpenComment at) t r = r
-first_of_tokens src (tok.WideLiteral at) t r = r
-first_of_tokens src (tok.LongWord at) t r = r
 first_of_tokens src tok.NoMemory t r = absurd t
+first_of_tokens src _ t r = r
 
 one_of_grammar : (src : List ℕ) (toks : List Token) (f g : SynFault) → IsTold (grammar_fault f) → IsTold (grammar_fault g)
     → grammar.Refuses src toks f → grammar.Refuses src toks g → grammar.StandsIn src toks f → grammar.StandsIn src toks g → grammar_fault f ≡ grammar_fault g
@@ -100,8 +97,7 @@ one_of_grammar src toks (syn.TooDeep a) (syn.NoReading b) t u r s p q = absurd (
 one_of_grammar src toks (syn.NoReading a) (syn.TooDeep b) t u r s p q = absurd (not_deep toks b r.0 s)
 one_of_grammar src toks (syn.NoReading a) (syn.NoReading b) t u r s p q = ap (λ (n : ℕ). Refused kind.NoReading n) (one_place src toks a b p q)
 one_of_grammar src toks syn.NoMemory g t u r s p q = absurd t
-one_of_grammar src toks (syn.TooDeep a) syn.NoMemory t u r s p q = absurd u
-one_of_grammar src toks (syn.NoReading a) syn.NoMemory t u r s p q = absurd u
+one_of_grammar src toks _ syn.NoMemory t u r s p q = absurd u
 
 one_without_tree : (src : List ℕ) (x y : ScriptFault) → IsTold x → IsTold y → NoTree src x → NoTree src y → x ≡ y
 one_without_tree src _ _ t u (in_tokens f r) (in_tokens g s) =
@@ -129,26 +125,12 @@ one_tree_of src a b t u = one_tree src t.tokens a b t.reads (subst (λ (l : List
 -- ---- names and checks
 
 first_of_names : (tree : Tree) (f : NameFault) → IsTold (name_fault f) → names.Refuses tree f → names.first (names.faults tree) ≡ Some f
-first_of_names tree (name.DuplicateClass at) t r = r
-first_of_names tree (name.DuplicateName at) t r = r
-first_of_names tree (name.UnknownClass at) t r = r
-first_of_names tree (name.UnknownName at) t r = r
-first_of_names tree (name.UnknownType at) t r = r
-first_of_names tree (name.NoPosition at) t r = r
-first_of_names tree (name.TooMany which at) t r = r
 first_of_names tree name.NoMemory t r = absurd t
+first_of_names tree _ t r = r
 
 first_of_checks : (tree : Tree) (f : CheckFault) → IsTold (check_fault f) → checks.Refuses (resolved tree) f → checks.first (checks.faults (resolved tree)) ≡ Some f
-first_of_checks tree (check.OtherAgentInUpdate at) t r = r
-first_of_checks tree (check.ReadsEffectInQuery at) t r = r
-first_of_checks tree (check.AssignsState at) t r = r
-first_of_checks tree (check.AssignsEffect at) t r = r
-first_of_checks tree (check.PrivateOfOtherClass at) t r = r
-first_of_checks tree (check.NestedTooDeep at) t r = r
-first_of_checks tree (check.BadRange at) t r = r
-first_of_checks tree (check.WrongCombinator at) t r = r
-first_of_checks tree (check.WrongType at) t r = r
 first_of_checks tree check.NoMemory t r = absurd t
+first_of_checks tree _ t r = r
 
 -- no list has both no fault and a first one
 no_first : {A : Type 0} (f : A) → None ≡ Some f → ⊥

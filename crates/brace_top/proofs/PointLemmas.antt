@@ -89,10 +89,7 @@ point_read program files name bytes moment e is =
 pub refused_point : (name : List ℕ) (fault : PointFault) (stopped : Stopped) → (fault ≡ point_fault.NoMemory → ⊥)
     → IsRefusedAs Checkpoint (point_message name fault) stopped → IsPointRefused name fault stopped
 refused_point name point_fault.NoMemory stopped never is = absurd (never refl)
-refused_point name point_fault.Incomplete stopped never is = is
-refused_point name (point_fault.BadLine n) stopped never is = is
-refused_point name point_fault.OtherClasses stopped never is = is
-refused_point name point_fault.BadVersion stopped never is = is
+refused_point name _ stopped never is = is
 
 told : (program : Program) (name bytes : List ℕ) (shelf : ShelfCall) (fault : PointFault) (stopped : Stopped)
     → shelf.faults_after ≡ shelf.faults_before → ((files : Files) → shelf.held ≡ Some files → loaded Checkpoint checkpoint_limit name (files name) ≡ Ok bytes)

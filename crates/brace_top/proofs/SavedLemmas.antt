@@ -18,7 +18,7 @@ use Rattle.brace_pieces.specs.Settings.{LawfulSetting, is_end, ends, shown_from,
 use Rattle.brace_pieces.proofs.EpochLemmas.{row_one, from_one}
 use Rattle.brace_pieces.proofs.FaultLemmas.{step_is_of}
 use Rattle.brace_pieces.proofs.HaltLemmas.{ended}
-use Rattle.brace_num.proofs.Rows.{row_has}
+use Rattle.brace_num.proofs.Rows.{row_has, row_joined}
 use Rattle.brace_watch.specs.declared.kinds.Watch.{Watch}
 use Rattle.brace_crew.specs.Calls.{Call, world_shown, worlds_at, call_at, ticks_left, call_of, calls_to, calls}
 use Rattle.brace_crew.specs.Shows.{Named, shown_text, saved_world, saved_file, checkpoint_file, file_name}
@@ -121,15 +121,6 @@ module _ (s : Setting) (fresh : Bool) (watches : List Watch) where
       ∙ sym (flat_map-cons figures t ticks)
 
 -- ---- the files of the ends up to a tick
-
-row_split : (n m a : ℕ) → range_with_len a (n + m) ≡ range_with_len a n ++ range_with_len (a + n) m
-row_split n zero a = let same : n + 0 ≡ n = omega arith in ap (range_with_len a) same ∙ sym (append-nil (range_with_len a n))
-row_split n (suc m) a =
-    let more : n + suc m ≡ suc (n + m) = omega arith in
-    let at : a + (n + m) ≡ a + n + m = omega arith in
-    ap (range_with_len a) more ∙ row_one (n + m) a ∙ ap₂ (λ (xs : List ℕ) (v : ℕ). xs ++ v ∷ []) (row_split n m a) at
-    ∙ append_assoc (range_with_len a n) (range_with_len (a + n) m) ((a + n + m) ∷ [])
-    ∙ ap (λ xs. range_with_len a n ++ xs) (sym (row_one m (a + n)))
 
 module _ (s : Setting) (saves : Saves) (fresh : Bool) where
   -- what is saved at an end
@@ -270,7 +261,7 @@ module _ (s : Setting) (saves : Saves) (fresh : Bool) where
       let rest : List ℕ = filter (is_end s) (range_with_len (s.job.first + n) m) in
       let whole : s.job.last + 1 - s.job.first ≡ n + m = omega (arith, before) in
       let split : ends s ≡ ends_to n ++ rest =
-      ap (λ v. filter (is_end s) (range_with_len s.job.first v)) whole ∙ ap (filter (is_end s)) (row_split n m s.job.first) ∙ filter-append (is_end s) (range_with_len s.job.first n) (range_with_len (s.job.first + n) m) in
+      ap (λ v. filter (is_end s) (range_with_len s.job.first v)) whole ∙ ap (filter (is_end s)) (sym (row_joined s.job.first n m)) ∙ filter-append (is_end s) (range_with_len s.job.first n) (range_with_len (s.job.first + n) m) in
       let none : flat_map saved_at rest ≡ [] =
       gone f m (s.job.first + n) (λ v low. let d : ℕ = v - s.job.first - n in let there : v - s.job.first ≡ n + d = omega (arith, low) in ap (world_after s.job) there ∙ world_after-ended s.job n d f over) in
       ap (λ xs. by_calls [] (map (call_at s) xs ++ left)) cut

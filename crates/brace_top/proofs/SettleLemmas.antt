@@ -41,8 +41,7 @@ name_in saves _ = None
 pub no_name : (saves : Saves) (x : PubFault) (name : List ℕ) → saves_files saves ≡ false → name_in saves x ≡ Some name → ⊥
 no_name saves (refusal.Save k) name bare named = let e : None ≡ Some name = sym (both_none saves.save saves.watch bare).0 ∙ named in absurd cc
 no_name saves (refusal.Watch k) name bare named = let e : None ≡ Some name = sym (both_none saves.save saves.watch bare).1 ∙ named in absurd cc
-no_name saves refusal.Write name bare named = absurd (cc)
-no_name saves refusal.NoMemory name bare named = absurd (cc)
+no_name saves _ name bare named = absurd (cc)
 
 -- ---- what an answer says
 
@@ -53,9 +52,8 @@ told_gives P status message (Err stop) h told none = subst (λ (x : Stopped). P 
 refused_gives : (P : List ℕ → Status → Type 0) (status : Status) (message : List ℕ) (stop : Stopped) → IsRefusedAs status message stop → P message status → P no_memory_message NoMemory
     → P (stopped_message stop) (stopped_status stop)
 refused_gives P status message (stopped.Refused a) h told none = subst (λ (m : List ℕ). P m a.status) (sym h.says) (subst (P message) (sym h.ends) told)
-refused_gives P status message stopped.Usage h told none = absurd h
-refused_gives P status message stopped.WriteFault h told none = absurd h
 refused_gives P status message stopped.NoMemory h told none = none
+refused_gives P status message _ h told none = absurd h
 
 pub stop_gives : (P : List ℕ → Status → Type 0) (stop other : Stopped) → other ≡ stop → P (stopped_message stop) (stopped_status stop) → P (stopped_message other) (stopped_status other)
 stop_gives P stop other is given = subst (λ (x : Stopped). P (stopped_message x) (stopped_status x)) (sym is) given

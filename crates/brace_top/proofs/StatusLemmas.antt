@@ -1,7 +1,7 @@
 -- What the kinds of statuses leave out.
 use Rattle.std.proofs.Common.{◌≡◌, subst, true, arith}
 use Rattle.brace_top.specs.declared.status.Status.{Status}
-use Rattle.brace_top.specs.declared.status.Status.TheVariants.{Done, Usage, Script, Agents, Plan, Checkpoint, Fault, ReadFault, WriteFault, SaveFault, NoMemory, Absent, Differs, Watches}
+use Rattle.brace_top.specs.declared.status.Status.TheVariants.{Done, Usage, Fault, ReadFault, WriteFault, SaveFault, NoMemory}
 use Rattle.brace_top.specs.Answer.{ShelfCall, SinkCall, StopsShelf, CountsShelf, CountsReads, CountsWrites}
 use Rattle.brace_top.specs.Status.{has_run, is_refusal, saves_nothing}
 use Rattle.brace_top.specs.inner.Settled.{is_stop, is_work, is_plain_work}
@@ -9,19 +9,7 @@ use Rattle.brace_top.specs.inner.Settled.{is_stop, is_work, is_plain_work}
 -- a command that was stopped did not run
 pub stop_runs : (P : Type 0) (status : Status) → is_stop status ≡ true → has_run status ≡ true → P
 stop_runs P Done s h = absurd cc
-stop_runs P Usage s h = absurd cc
-stop_runs P Script s h = absurd cc
-stop_runs P Agents s h = absurd cc
-stop_runs P Plan s h = absurd cc
-stop_runs P Checkpoint s h = absurd cc
-stop_runs P Fault s h = absurd cc
-stop_runs P ReadFault s h = absurd cc
-stop_runs P WriteFault s h = absurd cc
-stop_runs P SaveFault s h = absurd cc
-stop_runs P NoMemory s h = absurd cc
-stop_runs P Absent s h = absurd cc
-stop_runs P Differs s h = absurd cc
-stop_runs P Watches s h = absurd cc
+stop_runs P _ s h = absurd cc
 
 -- a command that was stopped had words that are one
 pub stop_usage : (status : Status) → is_stop status ≡ true → status ≡ Usage → ⊥
@@ -35,36 +23,12 @@ stop_writes sink status s e =
 -- a command whose work was begun is no refusal
 pub work_refusal : (P : Type 0) (status : Status) → is_work status ≡ true → is_refusal status ≡ true → P
 work_refusal P Done w r = absurd cc
-work_refusal P Usage w r = absurd cc
-work_refusal P Script w r = absurd cc
-work_refusal P Agents w r = absurd cc
-work_refusal P Plan w r = absurd cc
-work_refusal P Checkpoint w r = absurd cc
-work_refusal P Fault w r = absurd cc
-work_refusal P ReadFault w r = absurd cc
-work_refusal P WriteFault w r = absurd cc
-work_refusal P SaveFault w r = absurd cc
-work_refusal P NoMemory w r = absurd cc
-work_refusal P Absent w r = absurd cc
-work_refusal P Differs w r = absurd cc
-work_refusal P Watches w r = absurd cc
+work_refusal P _ w r = absurd cc
 
 -- a command whose work was begun may save files
 pub work_saves : (P : Type 0) (status : Status) → is_work status ≡ true → saves_nothing status ≡ true → P
 work_saves P Done w r = absurd cc
-work_saves P Usage w r = absurd cc
-work_saves P Script w r = absurd cc
-work_saves P Agents w r = absurd cc
-work_saves P Plan w r = absurd cc
-work_saves P Checkpoint w r = absurd cc
-work_saves P Fault w r = absurd cc
-work_saves P ReadFault w r = absurd cc
-work_saves P WriteFault w r = absurd cc
-work_saves P SaveFault w r = absurd cc
-work_saves P NoMemory w r = absurd cc
-work_saves P Absent w r = absurd cc
-work_saves P Differs w r = absurd cc
-work_saves P Watches w r = absurd cc
+work_saves P _ w r = absurd cc
 
 -- a command whose work was begun had words that are one
 pub work_usage : (status : Status) → is_work status ≡ true → status ≡ Usage → ⊥
@@ -76,20 +40,8 @@ work_reads status w e = let f : is_work ReadFault ≡ true = subst (λ (x : Stat
 
 -- work that saves nothing is work
 pub plain_works : (status : Status) → is_plain_work status ≡ true → is_work status ≡ true
-plain_works Done w = w
-plain_works Usage w = w
-plain_works Script w = w
-plain_works Agents w = w
-plain_works Plan w = w
-plain_works Checkpoint w = w
-plain_works Fault w = w
-plain_works ReadFault w = w
-plain_works WriteFault w = w
 plain_works SaveFault w = absurd cc
-plain_works NoMemory w = w
-plain_works Absent w = w
-plain_works Differs w = w
-plain_works Watches w = w
+plain_works _ w = w
 
 -- work that saves nothing stops no shelf
 pub plain_stops : (shelf : ShelfCall) (status : Status) → is_plain_work status ≡ true → StopsShelf shelf status
@@ -101,50 +53,23 @@ plain_stops shelf status w = record {
 -- no call to the shelf failed in work that saves nothing
 pub plain_counts : (shelf : ShelfCall) (status : Status) → is_plain_work status ≡ true → shelf.faults_after ≡ shelf.faults_before → CountsShelf shelf status
 plain_counts shelf Done w same = omega (arith, same)
-plain_counts shelf Usage w same = same
-plain_counts shelf Script w same = same
-plain_counts shelf Agents w same = same
-plain_counts shelf Plan w same = same
-plain_counts shelf Checkpoint w same = same
 plain_counts shelf Fault w same = omega (arith, same)
 plain_counts shelf ReadFault w same = absurd cc
 plain_counts shelf WriteFault w same = omega (arith, same)
 plain_counts shelf SaveFault w same = absurd cc
 plain_counts shelf NoMemory w same = tt
-plain_counts shelf Absent w same = same
-plain_counts shelf Differs w same = same
-plain_counts shelf Watches w same = same
+plain_counts shelf _ w same = same
 
 -- a command that was stopped did nothing to its shelf but read
 pub stop_reads : (shelf : ShelfCall) (status : Status) → is_stop status ≡ true → CountsShelf shelf status → CountsReads shelf status
 stop_reads shelf Done s counts = absurd cc
-stop_reads shelf Usage s counts = absurd cc
-stop_reads shelf Script s counts = counts
-stop_reads shelf Agents s counts = counts
-stop_reads shelf Plan s counts = counts
-stop_reads shelf Checkpoint s counts = counts
 stop_reads shelf Fault s counts = absurd cc
-stop_reads shelf ReadFault s counts = counts
 stop_reads shelf WriteFault s counts = absurd cc
 stop_reads shelf SaveFault s counts = absurd cc
-stop_reads shelf NoMemory s counts = counts
-stop_reads shelf Absent s counts = counts
-stop_reads shelf Differs s counts = counts
-stop_reads shelf Watches s counts = counts
+stop_reads shelf _ s counts = counts
 
 -- work that saves nothing reads nothing
 pub plain_reads : (shelf : ShelfCall) (status : Status) → is_plain_work status ≡ true → shelf.faults_after ≡ shelf.faults_before → CountsReads shelf status
-plain_reads shelf Done w same = same
-plain_reads shelf Usage w same = same
-plain_reads shelf Script w same = same
-plain_reads shelf Agents w same = same
-plain_reads shelf Plan w same = same
-plain_reads shelf Checkpoint w same = same
-plain_reads shelf Fault w same = same
 plain_reads shelf ReadFault w same = absurd cc
-plain_reads shelf WriteFault w same = same
-plain_reads shelf SaveFault w same = absurd cc
 plain_reads shelf NoMemory w same = tt
-plain_reads shelf Absent w same = same
-plain_reads shelf Differs w same = same
-plain_reads shelf Watches w same = same
+plain_reads shelf _ w same = same

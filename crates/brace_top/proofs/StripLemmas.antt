@@ -41,11 +41,10 @@ rest_sorted x xs up k d low within =
 
 -- what a sort of numbers gives
 pub sorted_never_falls : (xs : List ℤ) → IsSorted int_cmp xs → never_falls xs ≡ true
-sorted_never_falls [] up = refl
-sorted_never_falls (x ∷ []) up = refl
 sorted_never_falls (x ∷ y ∷ xs) up =
     and_from (int_le x y) (never_falls (y ∷ xs)) (not_lt y x (not_lower y x (up zero x (omega arith) (omega arith))))
     (sorted_never_falls (y ∷ xs) (rest_sorted x (y ∷ xs) up))
+sorted_never_falls _ up = refl
 
 apart : (q x : ℤ) → int_lt q x ≡ true → int_eq x q ≡ false
 apart q x lt = grind (arith, ints, Decides-int_eq x q, lt)
@@ -119,14 +118,13 @@ both_lowest p q le ge = grind (arith, ints, le, ge)
 
 one_proof : (xs : List ℤ) (strips n : ℕ) (a b : Proof) → IsProof xs strips n a → IsProof xs strips n b → a ≡ b
 one_proof xs strips n Empty Empty f g = refl
-one_proof xs strips n Empty (Stack q) f g = absurd (g.0 f)
-one_proof xs strips n Empty (Posts qs) f g = absurd (g.0 f)
 one_proof xs strips n (Stack p) Empty f g = absurd (f.0 g)
 one_proof xs strips n (Posts ps) Empty f g = absurd (f.0 g)
 one_proof xs strips n (Stack p) (Stack q) f g = ap Stack (both_lowest p q (f.1.least q g.1.stands) (g.1.least p f.1.stands))
 one_proof xs strips n (Stack p) (Posts qs) f g = absurd (omega (arith, f.1.stands, g.1 p))
 one_proof xs strips n (Posts ps) (Stack q) f g = absurd (omega (arith, g.1.stands, f.1 q))
 one_proof xs strips n (Posts ps) (Posts qs) f g = ap Posts (f.2 ∙ sym g.2)
+one_proof xs strips n Empty _ f g = absurd (g.0 f)
 
 module _ (xs : List ℤ) (strips : ℕ) (a b : Balance) (f : IsBalance xs strips a) (g : IsBalance xs strips b) where
   one_least : a.load ≡ b.load

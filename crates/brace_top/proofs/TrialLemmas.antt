@@ -149,9 +149,8 @@ module _ (s : Setting) (tick : ℕ) (shown : List Shown) where
   sums_of_last : (w : World) (sums : ℤ × ℤ) (last : Option Shown) (c : Bool) → last_shown shown ≡ last → is_end s tick ≡ c
       → saved_world s tick shown ≡ Some w → sums_after sums s tick shown ≡ sums_of s.job.program w.agents
   sums_of_last w sums None true is ends saved = absurd (nothing w (none_at_all is ends) saved)
-  sums_of_last w sums None false is ends saved = absurd (nothing w (none_within ends) saved)
-  sums_of_last w sums (Some x) false is ends saved = absurd (nothing w (none_within ends) saved)
   sums_of_last w sums (Some x) true is ends saved = sums_at w sums x (x.tick == tick) is ends refl saved
+  sums_of_last w sums _ false is ends saved = absurd (nothing w (none_within ends) saved)
 
   -- the sums over what is shown where a world is saved are those over that world
   sums_saved : (w : World) (sums : ℤ × ℤ) → saved_world s tick shown ≡ Some w → sums_after sums s tick shown ≡ sums_of s.job.program w.agents

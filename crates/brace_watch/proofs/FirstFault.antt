@@ -1,5 +1,5 @@
 -- The first faulty line of a watch file, found by reading the lines in turn.
-use Rattle.std.proofs.Common.{◌≡◌, ◌≤◌, ◌<◌, ◌+◌, ◌-◌, ◌∙◌, ℕ, suc, Result, Ok, Err, List, [], ◌∷◌, ◌++◌, length, Option, Some, None, sym, refl, ap, ap₂, subst, arith, append-nil, append_assoc, length-append, get_or, drop, map, ⊎_elim}
+use Rattle.std.proofs.Common.{◌≡◌, ◌≤◌, ◌<◌, ◌+◌, ◌-◌, ◌∙◌, ℕ, suc, Result, Ok, Err, List, [], ◌∷◌, ◌++◌, length, Option, Some, None, sym, ap, ap₂, subst, arith, append-nil, append_assoc, length-append, get_or, drop, map, ⊎_elim}
 use Rattle.std.specs.Prelude.{slice_get, option_map}
 use Rattle.std.specs.List.{cons_option}
 use Rattle.std.specs.Result.{result_ok}
@@ -22,9 +22,6 @@ pub record ReadTo (program : Program) (texts rest : List (List ℕ)) (watches : 
   pub place : n ≡ length before + 1
   pub gives : watches ≡ watches_in program before
   pub faultless : (k : ℕ) → 1 ≤ k → k < n → fault_at program texts k ≡ None
-
-pub read_none : (program : Program) (texts : List (List ℕ)) → ReadTo program texts texts [] 1
-read_none program texts = record { before = []; parts = refl; place = refl; gives = refl; faultless = λ k from below. absurd (omega (arith, from, below)) }
 
 -- the fault of the line that is next
 fault_here : (program : Program) (texts rest : List (List ℕ)) (text : List ℕ) (watches : List Watch) (n : ℕ) → ReadTo program texts (text ∷ rest) watches n

@@ -3,13 +3,13 @@ ghost use Rattle.std.specs.Prelude.{◌≡◌, ◌≤◌, ◌<◌, ℕ, length, 
 ghost use Rattle.brace_watch.specs.Lines.{texts_of};
 ghost use Rattle.brace_watch.specs.Watches.{watch_of, watches_in, fault_of, first_fault, IsWatch, AreWatches};
 ghost use Rattle.std.specs.List.{All};
-ghost use Rattle.brace_cuts.specs.CutPlans.{without_last_end};
 ghost use Rattle.brace_watch.specs.declared.kinds.WatchKind.{WatchKind};
 ghost use Rattle.brace_watch.specs.declared.kinds.WatchFault.TheVariants.{Bad};
 
-use crate::line::{pieces, read_line};
+use crate::line::read_line;
 use crate::name::watch_of;
 use crate::{Watch, WatchFault, WatchKind};
+use brace_cuts::split_lines;
 use brace_model::Program;
 use brace_num::{List, NoMemory};
 use std::alloc::Global;
@@ -29,7 +29,7 @@ pub fn read_watch(alloc: Global, program: &Program, bytes: &[u8]) -> Result<Vec<
     ensures each { IfOk result (λ watches. All (IsWatch program.now) watches.items) }
     ensures few { IfOk result (λ watches. length watches.items ≤ 64) }
 {
-    let texts = split_lines(alloc, bytes)?;
+    let texts = split_texts(alloc, bytes)?;
     let watches = read_lines(alloc, program, texts.as_slice())?;
     Ok(watches.into_vec())
 }
@@ -80,20 +80,12 @@ fn judge(number: u64, watch: Result<Watch, WatchKind>) -> Result<Watch, WatchKin
     Ok(watch)
 }
 
-fn split_lines<'a>(alloc: Global, bytes: &'a [u8]) -> Result<Vec<&'a [u8]>, NoMemory>
+// The lines of a file, of which an empty one has none.
+fn split_texts<'a>(alloc: Global, bytes: &'a [u8]) -> Result<Vec<&'a [u8]>, NoMemory>
     ensures { IfOk result (λ lines. map (λ p. p.now) lines.items ≡ texts_of bytes.now) }
 {
     if bytes.is_empty() {
         return Ok(Vec::new(alloc));
     }
-    Ok(pieces(alloc, without_last_end(bytes), b'\n')?)
-}
-
-fn without_last_end<'a>(bytes: &'a [u8]) -> &'a [u8]
-    ensures { result.now ≡ without_last_end bytes.now }
-{
-    match bytes {
-        [front @ .., b'\n'] => front,
-        _ => bytes,
-    }
+    split_lines(alloc, bytes)
 }

@@ -1,12 +1,13 @@
 //! A line of a watch file as it is written.
 ghost use Rattle.std.specs.Prelude.{◌≡◌, ◌==◌, length, map, option_map, IfOk};
-ghost use Rattle.std.specs.List.{list_any, slice_split};
+ghost use Rattle.std.specs.List.{list_any};
 ghost use Rattle.brace_watch.specs.Lines.{kind_of, op_of, test_in, line_with, line_of_kind, line_of_parts, line_in, line_of};
 ghost use Rattle.brace_watch.specs.inner.Seen.{seen_test, seen};
 
+use brace_cuts::pieces;
 use brace_model::{BinOp, Comb};
 use brace_num::NoMemory;
-use std::alloc::{AllocError, Global};
+use std::alloc::Global;
 
 /// A condition: a state, how it stands to a value, and the value.
 #[derive(Debug, Clone, Copy)]
@@ -24,14 +25,6 @@ pub struct Line<'a> {
     pub class: &'a [u8],
     pub field: Option<&'a [u8]>,
     pub test: Option<Test<'a>>,
-}
-
-/// What stands between the bytes of a kind.
-pub fn pieces<'a>(alloc: Global, bytes: &'a [u8], end: u8) -> Result<Vec<&'a [u8]>, AllocError>
-    ensures { IfOk result (λ pieces. map (λ p. p.now) pieces.items
-        ≡ slice_split (λ b. b == end) bytes.now) }
-{
-    bytes.split(move |byte| *byte == end).collect(alloc)
 }
 
 /// The line that a text is, if it has the form of one.

@@ -1,7 +1,7 @@
 //! The lines that tell figures.
-ghost use Rattle.std.specs.Prelude.{◌≡◌, ◌++◌, ◌∷◌, [], ◌<◌, ◌&&◌, ◌==◌, length, map, flat_map, take, OnOk, OnErr};
+ghost use Rattle.std.specs.Prelude.{◌≡◌, ◌++◌, ◌∷◌, ◌&&◌, ◌==◌, length, map, flat_map, take, OnOk, OnErr};
 ghost use Rattle.std.specs.List.{All};
-ghost use Rattle.brace_num.specs.Spelling.{canonical_int, canonical_fixed, sign_of, six_digits};
+ghost use Rattle.brace_num.specs.Spelling.{canonical_int};
 ghost use Rattle.brace_cuts.specs.Space.{LawfulCuts};
 ghost use Rattle.brace_comb.specs.Totals.{tally};
 ghost use Rattle.brace_watch.specs.Watches.{IsWatch};
@@ -14,7 +14,7 @@ use crate::{Figures, Watch};
 use brace_comb::{Combine, Total};
 use brace_cuts::Cuts;
 use brace_model::{Agent, Program, Ty};
-use brace_num::{NoMemory, print_count};
+use brace_num::{NoMemory, print_count, print_wide_fixed};
 use itoa::Buffer;
 use std::alloc::Global;
 
@@ -140,12 +140,13 @@ fn is_of_none(total: &Total) -> bool
     }
 }
 
+#[tactic(auto, using(brace_rows::proofs::Texts::starts_here))]
 fn append_number(out: &mut Vec<u8>, ty: Ty, n: i128) -> Result<(), NoMemory>
     ensures printed { OnOk result (out.new.items ≡ out.old.items ++ number_text ty n) }
     ensures only_appends { take (length out.old.items) out.new.items ≡ out.old.items }
 {
     match ty {
-        Ty::Fixed => append_fixed(out, n),
+        Ty::Fixed => print_wide_fixed(out, n),
         Ty::Int | Ty::Bool => append_int(out, n),
     }
 }
@@ -155,38 +156,5 @@ fn append_int(out: &mut Vec<u8>, n: i128) -> Result<(), NoMemory>
     ensures only_appends { take (length out.old.items) out.new.items ≡ out.old.items }
 {
     out.extend_from_slice(Buffer::new().format(n).as_bytes())?;
-    Ok(())
-}
-
-// A sum of millionths may be past 64 bits.
-#[tactic(auto, using(brace_num::proofs::Printings::starts_more))]
-fn append_fixed(out: &mut Vec<u8>, n: i128) -> Result<(), NoMemory>
-    ensures printed { OnOk result (out.new.items ≡ out.old.items ++ canonical_fixed n) }
-    ensures only_appends { take (length out.old.items) out.new.items ≡ out.old.items }
-{
-    let magnitude = n.unsigned_abs();
-    out.extend_from_slice(sign(n))?;
-    out.extend_from_slice(Buffer::new().format(magnitude / 1_000_000).as_bytes())?;
-    out.extend_from_slice(b".")?;
-    append_six_digits(out, magnitude % 1_000_000)
-}
-
-fn sign(n: i128) -> &'static [u8]
-    ensures { result.now ≡ sign_of n }
-{
-    if n < 0 { b"-" } else { b"" }
-}
-
-#[tactic(auto, using(brace_num::proofs::Printings::starts_more))]
-fn append_six_digits(out: &mut Vec<u8>, n: u128) -> Result<(), NoMemory>
-    requires { n < 1000000 }
-    ensures printed { OnOk result (out.new.items ≡ out.old.items ++ six_digits n) }
-    ensures only_appends { take (length out.old.items) out.new.items ≡ out.old.items }
-{
-    let mut buffer = Buffer::new();
-    let digits = buffer.format(n).as_bytes();
-    let zeros = [b'0'; 6];
-    out.extend_from_slice(&zeros[digits.len()..])?;
-    out.extend_from_slice(digits)?;
     Ok(())
 }

@@ -1,5 +1,5 @@
 -- A receiver to which frames are handed over one after another.
-use Rattle.std.proofs.Common.{◌≡◌, ◌∙◌, ◌+◌, ◌^◌, ◌<◌, Bool, true, false, eqb, List, [], ◌∷◌, ◌++◌, refl, sym, ap, subst, arith}
+use Rattle.std.proofs.Common.{◌≡◌, ◌∙◌, ◌+◌, ◌^◌, ◌<◌, Bool, true, false, eqb, List, [], ◌∷◌, ◌++◌, refl, sym, ap, subst}
 use Rattle.std.specs.Prelude.{if◌then◌else◌}
 use Rattle.std.specs.List.{fold}
 use Rattle.brace_wire.specs.declared.frame.Frame.{Frame}
@@ -31,15 +31,6 @@ pub record AreLeft (first now : OnReceiver) (all left : List Frame) : Type 0 whe
 module _ (first now : OnReceiver) (all left : List Frame) (h : AreLeft first now all left) where
   pub next_place : (f : Frame) (rest : List Frame) → left ≡ f ∷ rest → f.ordinal < now.taken + 2
   next_place f rest opens = (subst (HasPlace now.taken) opens h.place).0
-
-  pub one_left : (next : OnReceiver) (f : Frame) (rest : List Frame) → left ≡ f ∷ rest → next ≡ accepted now f → AreLeft first next all rest
-  one_left next f rest opens is =
-      let taken : next.taken ≡ now.taken = ap (λ (r : OnReceiver). r.taken) is ∙ same_taken now f in
-      record {
-        same = ap (λ (r : OnReceiver). fold accepted r rest) is ∙ ap (fold accepted now) (sym opens) ∙ h.same;
-        short = omega (arith, taken, h.short);
-        place = subst (λ n. HasPlace n rest) (sym taken) (subst (HasPlace now.taken) opens h.place).1;
-      }
 
   pub none_left : left ≡ [] → now ≡ fold accepted first all
   none_left none = ap (fold accepted now) (sym none) ∙ h.same

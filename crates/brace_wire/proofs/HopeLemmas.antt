@@ -72,9 +72,7 @@ most_rounds fates (suc k) n = by_fate (fate_of fates n) (most_rounds fates k (n 
 -- where a sending is not lost no later one counts
 not_lost : (fate : Fate) (a b : ℕ) → is_lost fate ≡ false → rounds_by fate a ≡ rounds_by fate b
 not_lost Lose a b e = absurd cc
-not_lost Deliver a b e = refl
-not_lost Twice a b e = refl
-not_lost After a b e = refl
+not_lost _ a b e = refl
 
 enough : (fates : List Fate) (k n j : ℕ) → j < k → is_lost (fate_of fates (n + j)) ≡ false → rounds_in fates (suc k) n ≡ rounds_in fates k n
 enough fates zero n j lt e = absurd (omega arith)
@@ -132,9 +130,7 @@ module _ (fates : List Fate) (delivers : HasDelivery fates) where
 
   some_round : (fate : Fate) (later : ℕ) → 1 ≤ rounds_by fate later
   some_round Lose later = omega arith
-  some_round Deliver later = omega arith
-  some_round Twice later = omega arith
-  some_round After later = omega arith
+  some_round _ later = omega arith
 
   by_coming : (b : Bool) (n m : ℕ) → 1 ≤ m → 1 ≤ n → n ≤ m → (1 ≤ (if b then 1 else n)) × ((if b then 1 else n) ≤ m)
   by_coming true n m some high low = (omega arith, some)

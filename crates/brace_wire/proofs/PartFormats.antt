@@ -83,12 +83,11 @@ sixteen_known = made_known (λ h. cast_signed w128 (joined h)) two_eights two_fi
 
 flag_takes : (bytes : List ℕ) (b : Bool) (rest : List ℕ) → IsBytes bytes → flag_at bytes ≡ Some (b, rest) → Takes bytes (flag b) rest × Unit {0}
 unfolding flag_at flag
-flag_takes [] b rest fits e = absurd cc
 flag_takes (zero ∷ bytes) b rest fits e =
     subst (λ (z : Bool × List ℕ). Takes (0 ∷ bytes) (flag z.0) z.1 × Unit {0}) (some_is (false, bytes) (b, rest) e) (record { parts = refl; rest_fits = IsBytes-rest 0 bytes fits }, tt)
 flag_takes (suc zero ∷ bytes) b rest fits e =
     subst (λ (z : Bool × List ℕ). Takes (1 ∷ bytes) (flag z.0) z.1 × Unit {0}) (some_is (true, bytes) (b, rest) e) (record { parts = refl; rest_fits = IsBytes-rest 1 bytes fits }, tt)
-flag_takes (suc (suc n) ∷ bytes) b rest fits e = absurd cc
+flag_takes _ b rest fits e = absurd cc
 
 flag_again : (b : Bool) (rest : List ℕ) → Unit {0} → flag_at (flag b ++ rest) ≡ Some (b, rest)
 unfolding flag_at flag
@@ -106,12 +105,11 @@ OptionFits o = IfSome o (λ n. n < 2 ^ 64)
 
 optional_takes : (bytes : List ℕ) (o : Option ℕ) (rest : List ℕ) → IsBytes bytes → optional_at bytes ≡ Some (o, rest) → Takes bytes (optional o) rest × OptionFits o
 unfolding optional_at optional
-optional_takes [] o rest fits e = absurd cc
 optional_takes (zero ∷ bytes) o rest fits e =
     subst (λ (z : Option ℕ × List ℕ). Takes (0 ∷ bytes) (optional z.0) z.1 × OptionFits z.0) (some_is (None, bytes) (o, rest) e) (record { parts = refl; rest_fits = IsBytes-rest 0 bytes fits }, tt)
 optional_takes (suc zero ∷ bytes) o rest fits e =
     made_takes some eight (λ n. n < 2 ^ 64) eight_at optional OptionFits eight_known (1 ∷ []) (λ n lt. refl) (λ n lt. lt) bytes o rest (IsBytes-rest 1 bytes fits) e
-optional_takes (suc (suc n) ∷ bytes) o rest fits e = absurd cc
+optional_takes _ o rest fits e = absurd cc
 
 optional_again : (o : Option ℕ) (rest : List ℕ) → OptionFits o → optional_at (optional o ++ rest) ≡ Some (o, rest)
 unfolding optional_at optional
@@ -140,8 +138,7 @@ value_again (Flag b) rest fits = rw (flag_known.again b rest tt) refl
 
 same_self : (t : Ty) → same_type t t ≡ true
 same_self ty.Int = refl
-same_self ty.Fixed = refl
-same_self ty.Bool = refl
+same_self _ = refl
 
 same_is : (a b : Ty) → same_type a b ≡ true → b ≡ a
 same_is ty.Int ty.Int h = refl
@@ -240,7 +237,6 @@ AnyParts p = Unit {0} × (p.1 < 2 ^ 64)
 
 total_takes : (bytes : List ℕ) (t : Total) (rest : List ℕ) → IsBytes bytes → total_at bytes ≡ Some (t, rest) → Takes bytes (total t) rest × TotalFits t
 unfolding total_at total
-total_takes [] t rest fits e = absurd cc
 total_takes (zero ∷ bytes) t rest fits e =
     made_takes (λ p. Sum p.0 p.1) (λ p. sixteen p.0 ++ eight p.1) SumParts (then_at sixteen_at eight_at) total TotalFits
     (both_known sixteen (FitsSigned w128) sixteen_at eight (λ n. n < 2 ^ 64) eight_at sixteen_known eight_known) (0 ∷ []) (λ p h. refl) (λ p h. h) bytes t rest (IsBytes-rest 0 bytes fits) e
@@ -255,7 +251,7 @@ total_takes (suc (suc (suc zero)) ∷ bytes) t rest fits e =
 total_takes (suc (suc (suc (suc zero))) ∷ bytes) t rest fits e =
     made_takes (λ p. Any p.0 p.1) (λ p. flag p.0 ++ eight p.1) AnyParts (then_at flag_at eight_at) total TotalFits
     (both_known flag NoRange flag_at eight (λ n. n < 2 ^ 64) eight_at flag_known eight_known) (4 ∷ []) (λ p h. refl) (λ p h. h.1) bytes t rest (IsBytes-rest 4 bytes fits) e
-total_takes (suc (suc (suc (suc (suc n)))) ∷ bytes) t rest fits e = absurd cc
+total_takes _ t rest fits e = absurd cc
 
 total_again : (t : Total) (rest : List ℕ) → TotalFits t → total_at (total t ++ rest) ≡ Some (t, rest)
 unfolding total_at total
@@ -329,37 +325,31 @@ constant {A} c s form bytes x rest same fits e =
 
 phase_takes : (bytes : List ℕ) (p : Phase) (rest : List ℕ) → IsBytes bytes → phase_at bytes ≡ Some (p, rest) → Takes bytes (phase p) rest × Unit {0}
 unfolding phase_at phase
-phase_takes [] p rest fits e = absurd cc
 phase_takes (zero ∷ bytes) p rest fits e = (constant Query phase 0 bytes p rest refl fits e, tt)
 phase_takes (suc zero ∷ bytes) p rest fits e = (constant Update phase 1 bytes p rest refl fits e, tt)
 phase_takes (suc (suc zero) ∷ bytes) p rest fits e = (constant Birth phase 2 bytes p rest refl fits e, tt)
-phase_takes (suc (suc (suc n)) ∷ bytes) p rest fits e = absurd cc
+phase_takes _ p rest fits e = absurd cc
 
 phase_again : (p : Phase) (rest : List ℕ) → Unit {0} → phase_at (phase p ++ rest) ≡ Some (p, rest)
 unfolding phase_at phase
 phase_again Query rest fits = refl
-phase_again Update rest fits = refl
-phase_again Birth rest fits = refl
+phase_again _ rest fits = refl
 
 phase_known : Known phase NoRange phase_at
 phase_known = record { takes = phase_takes; again = phase_again }
 
 kind_takes : (bytes : List ℕ) (k : Kind) (rest : List ℕ) → IsBytes bytes → kind_at bytes ≡ Some (k, rest) → Takes bytes (kind k) rest × Unit {0}
 unfolding kind_at kind
-kind_takes [] k rest fits e = absurd cc
-kind_takes (zero ∷ bytes) k rest fits e = absurd cc
 kind_takes (suc zero ∷ bytes) k rest fits e = (constant Overflow kind 1 bytes k rest refl fits e, tt)
 kind_takes (suc (suc zero) ∷ bytes) k rest fits e = (constant DivZero kind 2 bytes k rest refl fits e, tt)
 kind_takes (suc (suc (suc zero)) ∷ bytes) k rest fits e = (constant NegRoot kind 3 bytes k rest refl fits e, tt)
 kind_takes (suc (suc (suc (suc zero))) ∷ bytes) k rest fits e = (constant TooMany kind 4 bytes k rest refl fits e, tt)
-kind_takes (suc (suc (suc (suc (suc n)))) ∷ bytes) k rest fits e = absurd cc
+kind_takes _ k rest fits e = absurd cc
 
 kind_again : (k : Kind) (rest : List ℕ) → Unit {0} → kind_at (kind k ++ rest) ≡ Some (k, rest)
 unfolding kind_at kind
 kind_again Overflow rest fits = refl
-kind_again DivZero rest fits = refl
-kind_again NegRoot rest fits = refl
-kind_again TooMany rest fits = refl
+kind_again _ rest fits = refl
 
 kind_known : Known kind NoRange kind_at
 kind_known = record { takes = kind_takes; again = kind_again }
@@ -395,20 +385,18 @@ fault_known =
 
 cause_takes : (bytes : List ℕ) (c : Cause) (rest : List ℕ) → IsBytes bytes → cause_at bytes ≡ Some (c, rest) → Takes bytes (cause_bytes c) rest × CauseFits c
 unfolding cause_at cause_bytes
-cause_takes [] c rest fits e = absurd cc
 cause_takes (zero ∷ bytes) c rest fits e =
     made_takes cause.Fault fault FaultFits fault_at cause_bytes CauseFits fault_known (0 ∷ []) (λ f h. refl) (λ f h. h) bytes c rest (IsBytes-rest 0 bytes fits) e
 cause_takes (suc zero ∷ bytes) c rest fits e =
     subst (λ (z : Cause × List ℕ). Takes (1 ∷ bytes) (cause_bytes z.0) z.1 × CauseFits z.0) (some_is (cause.NoMemory, bytes) (c, rest) e) (record { parts = refl; rest_fits = IsBytes-rest 1 bytes fits }, tt)
 cause_takes (suc (suc zero) ∷ bytes) c rest fits e =
     subst (λ (z : Cause × List ℕ). Takes (2 ∷ bytes) (cause_bytes z.0) z.1 × CauseFits z.0) (some_is (cause.Closed, bytes) (c, rest) e) (record { parts = refl; rest_fits = IsBytes-rest 2 bytes fits }, tt)
-cause_takes (suc (suc (suc n)) ∷ bytes) c rest fits e = absurd cc
+cause_takes _ c rest fits e = absurd cc
 
 cause_again : (c : Cause) (rest : List ℕ) → CauseFits c → cause_at (cause_bytes c ++ rest) ≡ Some (c, rest)
 unfolding cause_at cause_bytes
 cause_again (cause.Fault f) rest fits = rw (fault_known.again f rest fits) refl
-cause_again cause.NoMemory rest fits = refl
-cause_again cause.Closed rest fits = refl
+cause_again _ rest fits = refl
 
 pub cause_known : Known cause_bytes CauseFits cause_at
 cause_known = record { takes = cause_takes; again = cause_again }

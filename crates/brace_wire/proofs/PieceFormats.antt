@@ -31,7 +31,6 @@ module _ (types : List (List Ty)) where
 
   piece_takes : (bytes : List ℕ) (p : Piece) (rest : List ℕ) → IsBytes bytes → piece_at types bytes ≡ Some (p, rest) → Takes bytes (piece_bytes p) rest × Fit p
   unfolding piece_at piece_bytes
-  piece_takes [] p rest fits e = absurd cc
   piece_takes (zero ∷ bytes) p rest fits e =
       made_takes piece.Border (listed agent) (ListFits (IsAgent types)) (list_at (agent_at types)) piece_bytes Fit agents_known (0 ∷ []) (λ x h. refl) (λ x h. h) bytes p rest (IsBytes-rest 0 bytes fits) e
   piece_takes (suc zero ∷ bytes) p rest fits e =
@@ -48,7 +47,7 @@ module _ (types : List (List Ty)) where
       made_takes piece.Halt cause_bytes CauseFits cause_at piece_bytes Fit cause_known (6 ∷ []) (λ x h. refl) (λ x h. h) bytes p rest (IsBytes-rest 6 bytes fits) e
   piece_takes (suc (suc (suc (suc (suc (suc (suc zero)))))) ∷ bytes) p rest fits e =
       made_takes piece.Census census CensusFits census_at piece_bytes Fit census_known (7 ∷ []) (λ x h. refl) (λ x h. h) bytes p rest (IsBytes-rest 7 bytes fits) e
-  piece_takes (suc (suc (suc (suc (suc (suc (suc (suc n))))))) ∷ bytes) p rest fits e = absurd cc
+  piece_takes _ p rest fits e = absurd cc
 
   piece_again : (p : Piece) (rest : List ℕ) → Fit p → piece_at types (piece_bytes p ++ rest) ≡ Some (p, rest)
   unfolding piece_at piece_bytes

@@ -7,7 +7,7 @@ use Rattle.std.proofs.lemmas.List.Sums.{sum_by-cons}
 use Rattle.std.proofs.lemmas.Nat.{mul-le}
 use Rattle.std.proofs.Math.Nat.{mul-suc, suc-mul}
 use Rattle.brace_core.specs.declared.name.Turn.{Turn}
-use Rattle.brace_core.specs.declared.name.Turn.TheVariants.{Put, Take, Work, Done}
+use Rattle.brace_core.specs.declared.name.Turn.TheVariants.{Take, Done}
 use Rattle.brace_core.specs.declared.turn.Went.{Went}
 use Rattle.brace_core.specs.declared.turn.Went.TheVariants.{On, Nowhere, Over}
 use Rattle.brace_core.specs.Schedule.{Schedule, IsLawful, front, lane, turns, turn_at}
@@ -43,10 +43,9 @@ pub record HasGone (s : Schedule) (pasts : List ℕ) (puts takes : ℕ → ℕ �
 
 -- whether a turn can be made, by counts of what was put and taken
 abbrev pub is_open : (ℕ → ℕ → ℕ) → (ℕ → ℕ → ℕ) → Turn → Bool
-is_open puts takes (Put n) = true
 is_open puts takes (Take n) = nat_lt (takes n.from n.to) (puts n.from n.to)
-is_open puts takes Work = true
 is_open puts takes Done = false
+is_open puts takes _ = true
 
 module _ (s : Schedule) (lawful : IsLawful s) (pasts : List ℕ) (puts takes : ℕ → ℕ → ℕ) (gone : HasGone s pasts puts takes) where
   abbrev x : State
@@ -59,13 +58,11 @@ module _ (s : Schedule) (lawful : IsLawful s) (pasts : List ℕ) (puts takes : �
   turn_now p low = ap (turn_at s p) (sym (gone.stands.places p low))
 
   ready_is : (p : ℕ) (t : Turn) → next s x p ≡ t → is_ready x.flight t ≡ is_open puts takes t
-  ready_is p (Put n) is = refl
   ready_is p (Take n) is =
       take_is_found s gone.events lawful gone.run p n is
       ∙ ap (λ k. nat_lt k (length (put_on s gone.events n.from n.to))) (sym (gone.stands.taken n.from n.to))
       ∙ ap (nat_lt (takes n.from n.to)) (sym (gone.stands.put n.from n.to))
-  ready_is p Work is = refl
-  ready_is p Done is = refl
+  ready_is p _ is = refl
 
   enabled_is : (p : ℕ) → p < s.actors → is_enabled s x p ≡ is_open puts takes (turn p)
   enabled_is p low =
@@ -148,17 +145,15 @@ module _ (s : Schedule) (lawful : IsLawful s) (pasts : List ℕ) (puts takes : �
 
 -- a turn that can be made there can be made by the counts
 open_is : (v : OnLinks) → ((p q : ℕ) → received_on v p q ≤ puts_on v p q) → (t : Turn) → can_make v t ≡ true → is_open (puts_on v) (takes_on v) t ≡ true
-open_is v low (Put n) can = refl
 open_is v low (Take n) can = lt-ltb _ _ (let more : takes_on v n.from n.to < received_on v n.from n.to = ltb-true _ _ can in omega (arith, more, low n.from n.to))
-open_is v low Work can = refl
 open_is v low Done can = absurd cc
+open_is v low _ can = refl
 
 -- and where all was received, no other can
 closed_is : (v : OnLinks) → ((p q : ℕ) → puts_on v p q ≡ received_on v p q) → (t : Turn) → can_make v t ≡ false → is_open (puts_on v) (takes_on v) t ≡ false
-closed_is v quiet (Put n) can = absurd cc
 closed_is v quiet (Take n) can = ap (nat_lt (takes_on v n.from n.to)) (quiet n.from n.to) ∙ can
-closed_is v quiet Work can = absurd cc
 closed_is v quiet Done can = refl
+closed_is v quiet _ can = absurd cc
 
 not_done : (v : OnLinks) (t : Turn) → can_make v t ≡ true → t ≡ Done → ⊥
 not_done v t can done = let no : false ≡ true = ap (can_make v) (sym done) ∙ can in absurd cc

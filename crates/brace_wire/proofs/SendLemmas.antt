@@ -1,13 +1,13 @@
 -- What a sending hands over by its fate, and what a link's receiver has behind a round.
-use Rattle.std.proofs.Common.{◌≡◌, ◌∙◌, ℕ, zero, suc, ◌+◌, ◌%◌, ◌^◌, ◌<◌, ◌≤◌, List, [], ◌∷◌, ◌++◌, length, get_or, set, map, take, drop, Option, Some, None, Result, Ok, Err, refl, sym, ap, subst, append_assoc, arith}
+use Rattle.std.proofs.Common.{◌≡◌, ◌∙◌, ℕ, zero, suc, ◌+◌, ◌^◌, ◌<◌, ◌≤◌, List, [], ◌∷◌, ◌++◌, length, get_or, set, map, take, drop, Option, Some, None, Result, Ok, Err, refl, sym, ap, subst, append_assoc, arith}
 use Rattle.std.specs.List.{AllByRecursion, fold}
 use Rattle.std.specs.Prelude.{slice_get, OnOk}
-use Rattle.std.proofs.lemmas.List.{get_or_read, set-get_or, take_all, append-nil}
+use Rattle.std.proofs.lemmas.List.{set-get_or, take_all, append-nil}
 use Rattle.std.proofs.lemmas.List.Sums.{fold-append}
 use Rattle.std.proofs.lemmas.Result.{on_ok_weaker}
 use Rattle.brace_wire.specs.declared.frame.Frame.{Frame}
 use Rattle.brace_wire.specs.declared.fate.Fate.{Fate}
-use Rattle.brace_wire.specs.declared.fate.Fate.TheVariants.{Lose, Deliver, Twice, After}
+use Rattle.brace_wire.specs.declared.fate.Fate.TheVariants.{Deliver, Twice}
 use Rattle.brace_wire.specs.declared.kept.Kept.{Kept}
 use Rattle.brace_wire.specs.Links.{OnReceiver, OnLink, accepted, fate_of, at_once, late_of, sent_at_once, sent_late, sent_again, after_round}
 use Rattle.brace_wire.specs.inner.Standing.{frames_of, held, CanCount, HasPlace}
@@ -15,10 +15,6 @@ use Rattle.brace_wire.proofs.StreamLemmas.{all_append}
 use Rattle.brace_wire.proofs.AcceptLemmas.{all_same_taken}
 
 -- ---- fates
-
--- the fate that was read is that of the sending
-pub fate_read : (fates : List Fate) (n i : ℕ) (read : Fate) → i ≡ n % length fates → i < length fates → read ≡ get_or fates i read → fate_of fates n ≡ read
-fate_read fates n i read is low at = ap (λ k. get_or fates k Lose) (sym is) ∙ sym (get_or_read fates i read low at Lose)
 
 pub once_is : (fates : List Fate) (kept : Kept) (fate : Fate) → fate_of fates kept.sent ≡ fate → sent_at_once fates (Some kept) ≡ at_once fate kept.frame
 once_is fates kept fate is = ap (λ (f : Fate). at_once f kept.frame) is
@@ -67,10 +63,9 @@ all_split P [] ys h = (tt, h)
 all_split P (x ∷ xs) ys h = let (front, back) = all_split P xs ys h.1 in ((h.0, front), back)
 
 once_place : (n : ℕ) (fate : Fate) (f : Frame) → f.ordinal < n + 2 → HasPlace n (at_once fate f)
-once_place n Lose f low = tt
 once_place n Deliver f low = (low, tt)
 once_place n Twice f low = (low, (low, tt))
-once_place n After f low = tt
+once_place n _ f low = tt
 
 kept_place : (n : ℕ) (fates : List Fate) (o : Option Kept) → HasPlace n (frames_of o) → HasPlace n (sent_at_once fates o)
 kept_place n fates None h = tt

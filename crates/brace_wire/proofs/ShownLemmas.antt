@@ -7,7 +7,7 @@ use Rattle.brace_pieces.specs.declared.piece.Piece.{Piece}
 use Rattle.brace_core.specs.declared.name.Name.{Name}
 use Rattle.brace_wire.specs.declared.frame.Frame.{Frame}
 use Rattle.brace_wire.specs.declared.fate.Fate.{Fate}
-use Rattle.brace_wire.specs.declared.fate.Fate.TheVariants.{Lose, Deliver, Twice, After}
+use Rattle.brace_wire.specs.declared.fate.Fate.TheVariants.{Deliver, Twice, After}
 use Rattle.brace_wire.specs.declared.kept.Kept.{Kept}
 use Rattle.brace_wire.specs.Net.{Carried, Lane, opening, Event, IsAllowed, carried, place_back, after_hand, after, Reaches, Happens}
 use Rattle.brace_wire.specs.Links.{OnReceiver, OnLink, received, with_put, accepted, fate_of, at_once, late_of, sent_at_once, sent_late, sent_again, after_round}
@@ -198,16 +198,13 @@ hand_all link lane happens shows (f ∷ frames) all =
 -- ---- a round
 
 once_sent : (sent : List (Carried Piece)) (fate : Fate) (f : Frame) → WasSent sent f → AllByRecursion (WasSent sent) (at_once fate f)
-once_sent sent Lose f w = tt
 once_sent sent Deliver f w = (w, tt)
 once_sent sent Twice f w = (w, (w, tt))
-once_sent sent After f w = tt
+once_sent sent _ f w = tt
 
 late_sent : (sent : List (Carried Piece)) (fate : Fate) (f : Frame) → WasSent sent f → AllByRecursion (WasSent sent) (late_of fate f)
-late_sent sent Lose f w = tt
-late_sent sent Deliver f w = tt
-late_sent sent Twice f w = tt
 late_sent sent After f w = (w, tt)
+late_sent sent _ f w = tt
 
 once_kept : (sent : List (Carried Piece)) (fates : List Fate) (o : Option Kept) → AllByRecursion (WasSent sent) (frames_of o) → AllByRecursion (WasSent sent) (sent_at_once fates o)
 once_kept sent fates None h = tt

@@ -2,10 +2,9 @@
 use Rattle.std.proofs.Common.{◌≡◌, ℕ, ◌+◌, ◌-◌, ◌<◌, ◌≤◌, ◌^◌, Bool, true, false, cond, ltb, List, [], ◌∷◌, ◌++◌, length, take, drop, Some, None, refl, sym, ap, subst, ◌∙◌, append_assoc, arith, inl, inr}
 use Rattle.std.specs.Prelude.{◌⊎◌, nat_le}
 use Rattle.std.specs.Int.{w32, from_be_bytes, to_be_bytes}
-use Rattle.std.specs.List.{flat_map, AllByRecursion, copy_within}
+use Rattle.std.specs.List.{flat_map, AllByRecursion}
 use Rattle.std.proofs.lemmas.Nat.{from_be_bytes-to_be_bytes_4}
-use Rattle.std.proofs.lemmas.List.{append-nil, take_at, drop_at, length-append, length-drop, length-take, take-append-drop}
-use Rattle.std.proofs.lemmas.List.Edits.{paste_all}
+use Rattle.std.proofs.lemmas.List.{append-nil, take_at, drop_at, length-append, length-take, take-append-drop}
 use Rattle.std.proofs.lemmas.List.Concat.{flat_map-cons, flat_map-append}
 use Rattle.brace_model.specs.declared.program.Ty.{Ty}
 use Rattle.brace_wire.specs.declared.frame.Frame.{Frame}
@@ -179,10 +178,6 @@ pub record ReadSoFar (types : List (List Ty)) (bytes : List ℕ) (before out : L
 pub begin : (types : List (List Ty)) (bytes : List ℕ) (before : List Frame) → ReadSoFar types bytes before before bytes
 begin types bytes before = record { frames = []; appended = sym (append-nil before); reads = record { same = refl; each = tt } }
 
--- what was there before stands in front
-pub stays_in_front : (types : List (List Ty)) (bytes rest : List ℕ) (before out : List Frame) → ReadSoFar types bytes before out rest → take (length before) out ≡ before
-stays_in_front types bytes rest before out h = ap (take (length before)) h.appended ∙ take_at before h.frames (length before) refl
-
 -- one more frame
 pub one_more : (types : List (List Ty)) (bytes rest text behind : List ℕ) (fs : List Frame) (f : Frame) → Reads types bytes fs rest → rest ≡ four (length text) ++ (text ++ behind) → body f ≡ text
     → IsFrame types f → Reads types bytes (fs ++ f ∷ []) behind
@@ -208,21 +203,6 @@ pub stands_behind : (bytes front rest : List ℕ) → bytes ≡ front ++ rest �
 stands_behind bytes front rest e =
     let long : length bytes ≡ length front + length rest = ap length e ∙ length-append front rest in
     ap (drop (length bytes - length rest)) e ∙ drop_at front rest (length bytes - length rest) (omega (arith, long))
-
-pub read_length : (types : List (List Ty)) (bytes rest : List ℕ) (fs : List Frame) → Reads types bytes fs rest → length rest ≤ length bytes
-read_length types bytes rest fs a = omega (arith, ap length a.same ∙ length-append (flat_map frame fs) rest)
-
--- how many bytes the frames have
-pub used : (types : List (List Ty)) (bytes : List ℕ) (n : ℕ) (fs : List Frame) → n ≤ length bytes → Reads types bytes fs (drop n bytes) → length (flat_map frame fs) ≡ n
-used types bytes n fs h a =
-    omega (arith, ap length a.same ∙ length-append (flat_map frame fs) (drop n bytes), length-drop n bytes)
-
--- what stands from a place on, moved to the front
-pub moved : (bytes : List ℕ) (start : ℕ) → start ≤ length bytes → take (length bytes - start) (copy_within bytes start (length bytes) 0) ≡ drop start bytes
-moved bytes start h =
-    let long : length (drop start bytes) ≡ length bytes - start = length-drop start bytes in
-    ap (take (length bytes - start)) (paste_all bytes 0 (drop start bytes) (length bytes - start) (sym long))
-    ∙ take_at (drop start bytes) (drop (0 + (length bytes - start)) bytes) (length bytes - start) long
 
 -- one more frame was appended
 pub read_more : (types : List (List Ty)) (bytes rest text behind : List ℕ) (before out new : List Frame) (f : Frame) → ReadSoFar types bytes before out rest → new ≡ out ++ f ∷ []

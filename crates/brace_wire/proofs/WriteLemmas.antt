@@ -16,11 +16,6 @@ use Rattle.brace_wire.specs.Frames.{four, listed, body, frame}
 use Rattle.brace_wire.specs.Fitting.{AgentFits, IsAgent, is_of, ShownFits, PieceFits, IsOf, IsFrame}
 use Rattle.brace_wire.specs.inner.Written.{BodyFits}
 
--- one more item fits
-pub fit_more : {A : Type 0} (P : A → Type 0) (xs : List A) (x : A) → AllByRecursion P xs → P x → AllByRecursion P (xs ++ x ∷ [])
-fit_more P [] x h g = (g, tt)
-fit_more P (y ∷ ys) x h g = (h.0, fit_more P ys x h.1 g)
-
 -- ---- agents that fit and are of classes
 
 module _ (types : List (List Ty)) where
@@ -51,13 +46,11 @@ module _ (types : List (List Ty)) where
 
   piece_is : (p : Piece) → PieceFits AgentFits p → IsOf types p → PieceFits (IsAgent types) p
   piece_is (piece.Border agents) h g = (h.0, agents_are agents h.1 g)
-  piece_is (piece.Effects entries) h g = h
   piece_is (piece.Move agents) h g = (h.0, agents_are agents h.1 g)
   piece_is (piece.Hand agents) h g = (h.0, agents_are agents h.1 g)
   piece_is (piece.Show shows) h g = (h.0, shows_are shows h.1 g)
   piece_is piece.Ack h g = tt
-  piece_is (piece.Halt c) h g = h
-  piece_is (piece.Census c) h g = h
+  piece_is _ h g = h
 
   pub frame_is : (f : Frame) → BodyFits AgentFits f → length (body f) < 2 ^ 32 → IsOf types f.piece → IsFrame types f
   frame_is f fits short of = record { from = fits.from; to = fits.to; ordinal = fits.ordinal; piece = piece_is f.piece fits.piece of; short = short }

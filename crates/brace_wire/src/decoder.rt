@@ -145,37 +145,25 @@ fn go_on(
 {
     let held = rest.len();
     let before = out.len();
-    let done = read_more(alloc, types, place, rest, piece, out);
-    if done.is_err() {
-        rest.truncate(held);
-        out.truncate(before);
-    }
-    done
-}
-
-// A refused call may leave more behind both lists.
-fn read_more(
-    alloc: Global,
-    types: &[List<Ty>],
-    place: u64,
-    rest: &mut Vec<u8>,
-    piece: &[u8],
-    out: &mut Vec<Frame>,
-) -> Result<(u64, bool), NoMemory>
-    ensures read { IfOk result (λ x. Advances (waits types.now place rest.old.items) piece.now
-        (waits types.now x.0 rest.new.items) out.old.items out.new.items) }
-    ensures leaves_off { IfOk result (λ x. LeavesOff x.1 types.now rest.new.items) }
-    ensures rest_kept { OnErr result
-        (take (length rest.old.items) rest.new.items ≡ rest.old.items) }
-    ensures out_kept { OnErr result (take (length out.old.items) out.new.items ≡ out.old.items) }
-{
     rest.extend_from_slice(piece)?;
-    let (used, is_broken) = read_frames(alloc, types, rest.as_slice(), out)?;
+    let Ok((used, is_broken)) = read_frames(alloc, types, rest.as_slice(), out) else {
+        return Err(taken_back(rest, held, out, before));
+    };
     let Some(place) = place.checked_add(used as u64) else {
-        return Err(NoMemory);
+        return Err(taken_back(rest, held, out, before));
     };
     keep_from(rest, used);
     Ok((place, is_broken))
+}
+
+/// Takes back what stands in two lists from these places on.
+fn taken_back(rest: &mut Vec<u8>, held: usize, out: &mut Vec<Frame>, before: usize) -> NoMemory
+    ensures rest { rest.new.items ≡ take held rest.old.items }
+    ensures out { out.new.items ≡ take before out.old.items }
+{
+    rest.truncate(held);
+    out.truncate(before);
+    NoMemory
 }
 
 /// Keeps what stands from a place on.

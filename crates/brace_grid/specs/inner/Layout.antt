@@ -88,6 +88,11 @@ pub record AreCellsOf (spots : List Spot) (cells : List Cell) : Type 0 where
       → list_any (λ c. int_eq column c.column && int_eq row c.row) cells
       ≡ list_any (λ s. int_eq column s.column && int_eq row s.row) spots
 
+-- spots by rising cell, and the cells that hold one
+pub record AreLaidOut (spots : List Spot) (cells : List Cell) : Type 0 where
+  pub rise : SpotsRise spots
+  pub cells_of : AreCellsOf spots cells
+
 -- spots and cells of the agents at some places
 pub record IsLayoutOf (side : ℤ) (places : List Point) (spots : List Spot) (cells : List Cell)
     : Type 0 where

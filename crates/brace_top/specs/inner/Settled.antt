@@ -11,7 +11,7 @@ use Rattle.brace_model.specs.Run.{end_of}
 use Rattle.brace_top.specs.declared.command.TrialCommand.{TrialCommand as CodeTrial}
 use Rattle.brace_top.specs.declared.task.Task.{Task}
 use Rattle.brace_top.specs.declared.status.Status.{Status}
-use Rattle.brace_top.specs.declared.status.Status.TheVariants.{Done, Usage, Script, Agents, Plan, Checkpoint, Fault, ReadFault, WriteFault, SaveFault, NoMemory, Absent, Differs, Watches}
+use Rattle.brace_top.specs.declared.status.Status.TheVariants.{Done, Usage, Script, Agents, Plan, Checkpoint, Fault, ReadFault, WriteFault, SaveFault, NoMemory, Watches}
 use Rattle.brace_top.specs.Answer.{ShelfCall, SinkCall, shelf_call, sink_call, Among, IsUnread, IsUnwritten, IsGivenUp, IsEnd, IsUnsaved, IsAnswer, StopsShelf, CountsShelf, CountsReads, CountsWrites}
 use Rattle.brace_top.specs.Status.{has_run, is_refusal, saves_nothing}
 use Rattle.brace_top.specs.Commands.{Command, may_save}
@@ -170,27 +170,13 @@ IsSettled stats saves (Err crew.NoMemory) r = r ≡ Err stopped.NoMemory
 
 -- the status refuses a file, or tells that it differs, with no fault of the outside
 abbrev pub refuses_file : Status → Bool
-refuses_file Script = true
-refuses_file Agents = true
-refuses_file Plan = true
-refuses_file Checkpoint = true
-refuses_file Absent = true
-refuses_file Differs = true
-refuses_file Watches = true
-refuses_file status = false
+refuses_file ReadFault = false
+refuses_file status = is_refusal status
 
 -- a command is stopped so before it is carried out
 abbrev pub is_stop : Status → Bool
-is_stop Script = true
-is_stop Agents = true
-is_stop Plan = true
-is_stop Checkpoint = true
-is_stop ReadFault = true
 is_stop NoMemory = true
-is_stop Absent = true
-is_stop Differs = true
-is_stop Watches = true
-is_stop status = false
+is_stop status = is_refusal status
 
 -- a file is refused with this message, with no fault of the outside
 pub record IsRefused (refusals : Files → Refusal → Type 0) (shelf : ShelfCall) (message : List ℕ)

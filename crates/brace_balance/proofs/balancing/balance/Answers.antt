@@ -2,8 +2,9 @@ use Rattle.std.proofs.Common.{◌≡◌, ◌<◌, pos, true, length, get_or, int
 use Rattle.std.specs.Option.{IfSome}
 use Rattle.std.proofs.lemmas.Option.{slice_get-get_or}
 use Rattle.std.specs.List.{list_all}
-use Rattle.brace_balance.specs.Loads.{rises, load}
-use Rattle.brace_balance.specs.Fillings.{filled, can_cut, least_number}
+use Rattle.brace_cuts.specs.Space.{rises, can_cut, least as least_number}
+use Rattle.brace_balance.specs.Loads.{load}
+use Rattle.brace_balance.specs.Fillings.{filled}
 use Rattle.brace_balance.proofs.Filled.{cuts_rise}
 use Rattle.brace_balance.proofs.Balances.{given_is_accepted, load_is, is_least, filled_can_cut, none_there, no_load, least_of_none}
 use Rattle.brace_balance.proofs.balancing.balance.Goals as goal

@@ -15,7 +15,7 @@ returns g c =
     let column_same = to_z-of_z w64 column c.ranges.column in
     let from = place_at_same spots (to_z w64 (of_z w64 column)) block.south _ _ _ _ refl (search (rules, to_z-of_z)) refl c.place-start.ensures.place in
     let start : IsPlace spots column block.south c.place-start.result = place_at_same spots column block.south _ _ _ _ column_same refl refl from in
-    let (n, end) = some_place spots c.requires.spots column (block.north +ℤ pos 1) in
+    let (n, end) = some_place spots c.requires.laid.rise column (block.north +ℤ pos 1) in
     let to = place_at_same spots (to_z w64 (of_z w64 column)) (to_z w64 (of_z w64 block.north) +ℤ pos 1) _ _ _ _ (sym column_same) (search (rules, to_z-of_z)) refl end in
     record {
       found = on_ok_weaker c.gather.result (column_found spots column block.south block.north c.place-start.result n start end c.args.area.now c.args.out.now.items c.gather.new.out.items) (c.gather.ensures.found block.south n from to);

@@ -1,4 +1,4 @@
-use Rattle.std.proofs.Common.{◌∙◌, ap, arith}
+use Rattle.std.proofs.Common.{arith}
 use Rattle.brace_lanes.proofs.PlaceLemmas.{words_below}
 use Rattle.brace_lanes.proofs.StepsAllowed.{takes_one}
 use Rattle.brace_lanes.proofs.steps.store_taken.Goals as goal

@@ -1,6 +1,5 @@
 use Rattle.std.proofs.Common.{◌≡◌, ◌+◌, ◌%◌, ◌∙◌, ℕ, false, cond, is_some, sym, subst, arith, rules}
-use Rattle.brace_core.specs.declared.name.Name.{Name}
-use Rattle.brace_core.specs.Exchanges.{IsNext, one_on}
+use Rattle.brace_core.specs.Exchanges.{IsNext}
 use Rattle.brace_lanes.specs.declared.tests.Talk.{Talk}
 use Rattle.brace_lanes.specs.Seats.{takes_of}
 use Rattle.brace_lanes.specs.Views.{opening}

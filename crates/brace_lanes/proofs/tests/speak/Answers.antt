@@ -1,4 +1,4 @@
-use Rattle.std.proofs.Common.{◌≡◌, ◌<◌, ◌+◌, ap, is_some, refl}
+use Rattle.std.proofs.Common.{◌+◌, ap, is_some, refl}
 use Rattle.brace_lanes.proofs.TalkLemmas.{says_next, says_answered, hears_next, has_said, has_heard}
 use Rattle.brace_lanes.proofs.tests.speak.Goals as goal
 

@@ -1,7 +1,6 @@
-use Rattle.std.proofs.Common.{◌∙◌, ap, sym}
+use Rattle.std.proofs.Common.{◌∙◌, ap, sym, Bor, List, ℕ}
 use Rattle.std.specs.Prelude.{option_map}
 use Rattle.csv.specs.Records.{fields_of}
-use Rattle.std.proofs.Common.{Bor, List, ℕ}
 use Rattle.brace_rows.proofs.Values.{field_some, field_none}
 use Rattle.brace_rows.proofs.record.field_at.Goals as goal
 

@@ -30,9 +30,8 @@ read_fails comes_to name shelf (stop.Refused a) unread is = record {
       (subst (λ (m : List ℕ). IsUnread shelf m name) (sym is.says) unread);
   counts = subst (CountsShelf shelf) (sym is.ends) unread.failed;
 }
-read_fails comes_to name shelf stop.Usage unread is = absurd is
-read_fails comes_to name shelf stop.WriteFault unread is = absurd is
 read_fails comes_to name shelf stop.NoMemory unread is = memory_unloads comes_to name shelf
+read_fails comes_to name shelf _ unread is = absurd is
 
 pub returns-in-Ok-clause-loads : goal.returns-in-Ok-clause-loads
 returns-in-Ok-clause-loads g c = record {

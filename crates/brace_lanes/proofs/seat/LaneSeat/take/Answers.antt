@@ -1,4 +1,4 @@
-use Rattle.std.proofs.Common.{◌≡◌, ◌<◌, ◌+◌, ◌^◌, ◌∙◌, ap, sym, arith, rules}
+use Rattle.std.proofs.Common.{◌<◌, ◌+◌, ◌^◌, arith, rules}
 use Rattle.brace_lanes.proofs.SeatLemmas.{take_counted, miss_misses, miss_sound, hit_out, hit_count, hit_seen, hit_takes, hit_misses, hit_found, hit_right, hit_sound}
 use Rattle.brace_lanes.proofs.seat.LaneSeat.take.Goals as goal
 

@@ -1,7 +1,7 @@
 use Rattle.std.proofs.Common.{◌≡◌, ◌≤◌, ◌<◌, ◌+◌, ◌++◌, ◌∙◌, ℕ, List, Some, take, length, length-drop, length-take, arith, ap, sym}
 use Rattle.brace_io.specs.Shelves.{held_at, Next, ReadsFrom}
 use Rattle.brace_io.proofs.ReadLemmas.{file_of, reads_as, whole_file, length_more, front_more}
-use Rattle.brace_io.proofs.read.read_on.Goals as goal
+use Rattle.brace_io.proofs.read.read_whole.Goals as goal
 
 pub file-preserved : goal.file-preserved
 file-preserved g c =
@@ -22,6 +22,7 @@ file-preserved g c =
     record {
       within = omega (arith, longer, i.within, c.if-got-room.false);
       chunk = i.chunk;
+      has = i.has;
       same = e.held_alone ∙ i.same;
       faults = e.faults_alone ∙ i.faults;
       reads = rw longer at;
@@ -37,7 +38,7 @@ returns-then-got-eq0-clause-all g c =
     let bytes = c.file.bytes.items in
     let here : ReadsFrom (g.S.Shelf.held c.file.shelf) (g.S.Shelf.stage c.file.shelf) name (length bytes) = reads_as _ _ _ name (length bytes) (sym i.same) i.reads in
     let filled : 0 < length c.read.new.buffer = let a = c.read.auto.buffer in let b = c.deref_mut.ensures.len in omega (arith, a, b, i.chunk, length-take {A = ℕ}) in
-    whole_file _ name bytes c.requires.has i.so_far (λ file h. (e.next name file (length bytes) here (ap (λ k. held_at k name) i.same ∙ h)).2 (omega arith) filled)
+    whole_file _ name bytes i.has i.so_far (λ file h. (e.next name file (length bytes) here (ap (λ k. held_at k name) i.same ∙ h)).2 (omega arith) filled)
 
 pub returns-then-got-room-clause-long : goal.returns-then-got-room-clause-long
 returns-then-got-room-clause-long g c = λ _ told.
@@ -45,7 +46,7 @@ returns-then-got-room-clause-long g c = λ _ told.
     let e = c.in_ok-got.ensures in
     let name = c.args.name.now in
     let bytes = c.file.bytes.items in
-    let (file, h) = file_of _ name c.requires.has told in
+    let (file, h) = file_of _ name i.has told in
     let here : ReadsFrom (g.S.Shelf.held c.file.shelf) (g.S.Shelf.stage c.file.shelf) name (length bytes) = reads_as _ _ _ name (length bytes) (sym i.same) i.reads in
     let n = (e.next name file (length bytes) here (ap (λ k. held_at k name) i.same ∙ h)).1 in
     (file, (h, omega (arith, i.within, n, c.if-got-room.true, length-drop (length bytes) file)))
