@@ -28,6 +28,16 @@ def texts():
     return found
 
 
+def own_lines(text, name):
+    """How many lines declare a name: its signature, and each clause, as far to the right."""
+    begins = rf"^( *)(?:pub )?(?:abbrev )?(?:pub )?{re.escape(name)}(?![\w-])"
+    found = [(len(line[1]), line[0]) for line in re.finditer(begins + ".*", text, re.M)]
+    signature = begins + r"(?:\s+(?:\{[^}]*\}|\([^)]*\)))*\s*:"
+    margins = {margin for margin, line in found if re.match(signature, line)}
+    return sum(margin in margins and bool(re.match(signature + r"|.* =(?: |$)", line))
+               for margin, line in found)
+
+
 def main():
     words = argparse.ArgumentParser(description=__doc__.split("\n", 1)[0], allow_abbrev=False)
     words.add_argument("crates", nargs="*", metavar="CRATE")
@@ -41,8 +51,7 @@ def main():
         if folder != "proofs" or len(rest) != 1 or (asked.crates and crate not in asked.crates):
             continue
         for name in dict.fromkeys(DECLARED.findall(text)):
-            own = len(re.findall(rf"^\s*(?:pub )?(?:abbrev )?(?:pub )?{re.escape(name)}\b.*[=:]",
-                                 text, re.M))
+            own = own_lines(text, name)
             if counts[name] <= own:
                 print(f"{crate}/proofs/{rest[0]}: {name}")
 
