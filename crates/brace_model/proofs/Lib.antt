@@ -12,3 +12,6 @@ pub mod RunLemmas
 pub mod Simulation
 pub mod WorldLemmas
 pub mod TypeLemmas
+pub mod WordLemmas
+pub mod BlockLemmas
+pub mod HeadLemmas

@@ -12,3 +12,5 @@ pub mod Typing
 pub mod Lawful
 pub mod Scopes
 pub mod Typed
+pub mod Words
+pub mod inner

@@ -3,15 +3,20 @@
 
 mod copy;
 mod fault;
+mod heads;
+mod herd;
 mod job;
 pub mod laws;
 mod next;
 mod program;
 mod sight;
+mod stored;
+mod values;
 mod world;
 
 pub use brace_num::Area;
 pub use fault::{Fault, Phase, Stop, earlier, fault_less, with_earlier};
+pub use herd::Herd;
 pub use job::{Env, Job, agent_of};
 pub use next::{Left, child_with, survivor, update_fault, with_stop};
 pub use program::{

@@ -1,8 +1,7 @@
-ghost use Rattle.std.specs.Prelude.{◌≡◌, ◌<◌, ◌-◌, ◌^◌, min, IfOk, IfSome, IfNone, MatchBool};
-ghost use Rattle.std.specs.List.{All};
-ghost use Rattle.brace_model.specs.World.{RisesById, IsNumbered, least_next, world_of, world_with};
+ghost use Rattle.std.specs.Prelude.{◌≡◌, IfOk, IfSome, IfNone, MatchBool};
+ghost use Rattle.brace_model.specs.World.{RisesById, IsNumbered, world_of, world_with};
 
-use crate::Value;
+use crate::{Herd, Value};
 use brace_num::{List, NoMemory};
 use std::alloc::Global;
 use std::marker::Model;
@@ -40,7 +39,7 @@ pub struct Census {
 /// The agents of a tick, by rising id, and the next free id.
 #[derive(Debug, Drop)]
 pub struct World {
-    agents: Vec<Agent>,
+    agents: Herd,
     next: u64,
 }
 
@@ -49,9 +48,9 @@ impl Model for World {
 
     ghost Value = { World };
 
-    ghost view = { λ world. world_with world.agents.items world.next };
+    ghost view = { λ world. world_with world.agents world.next };
 
-    ghost invariant = { λ world. IsNumbered (world_with world.agents.items world.next) };
+    ghost invariant = { λ world. IsNumbered (world_with world.agents world.next) };
 }
 
 /// The greatest free id: no agent has a greater id than 2^63 - 1.
@@ -69,47 +68,29 @@ pub fn rises(agents: &[Agent]) -> bool
     true
 }
 
-/// Whether each agent's id is below a number.
-fn are_below(agents: &[Agent], next: u64) -> bool
-    ensures { MatchBool result
-        (All (λ a. a.id < next) agents.now) (All (λ a. a.id < next) agents.now → ⊥) }
-{
-    agents.iter().all(|agent| agent.id < next)
-}
-
-/// One more than the last id, or 0 where there is none; at most the greatest number.
-fn least_next(agents: &[Agent]) -> u64
-    ensures { result ≡ min (least_next agents.now) (2 ^ 64 - 1) }
-{
-    match agents.last() {
-        Some(agent) => agent.id.saturating_add(1),
-        None => 0,
-    }
-}
-
 impl World {
     /// The world of these agents with the least next free id, or None exactly where their ids do
     /// not rise strictly or one of them is above 2^63 - 1. It takes no memory.
-    pub fn from_rising(agents: Vec<Agent>) -> Option<World>
-        ensures world { IfSome result (λ world. world ≡ world_of agents.items) }
+    pub fn from_rising(agents: Herd) -> Option<World>
+        ensures world { IfSome result (λ world. world ≡ world_of agents) }
         ensures numbered { IfSome result IsNumbered }
-        ensures none { IfNone result (IsNumbered (world_of agents.items) → ⊥) }
+        ensures none { IfNone result (IsNumbered (world_of agents) → ⊥) }
     {
-        if !rises(agents.as_slice()) {
+        if !agents.rises() {
             return None;
         }
-        let next = least_next(agents.as_slice());
+        let next = agents.least_next();
         World::with_next(agents, next)
     }
 
     /// The world of these agents with a next free id, or None exactly where their ids do not rise
     /// strictly, one of them is not below `next`, or `next` is above 2^63. It takes no memory.
-    pub fn with_next(agents: Vec<Agent>, next: u64) -> Option<World>
-        ensures world { IfSome result (λ world. world ≡ world_with agents.items next) }
+    pub fn with_next(agents: Herd, next: u64) -> Option<World>
+        ensures world { IfSome result (λ world. world ≡ world_with agents next) }
         ensures numbered { IfSome result IsNumbered }
-        ensures none { IfNone result (IsNumbered (world_with agents.items next) → ⊥) }
+        ensures none { IfNone result (IsNumbered (world_with agents next) → ⊥) }
     {
-        if next <= LAST_NEXT && rises(agents.as_slice()) && are_below(agents.as_slice(), next) {
+        if next <= LAST_NEXT && agents.rises() && agents.are_below(next) {
             Some(World { agents, next })
         } else {
             None
@@ -117,11 +98,11 @@ impl World {
     }
 
     /// The agents, by rising id.
-    pub fn agents(&self) -> &[Agent]
+    pub fn agents(&self) -> &Herd
         ensures same { result.now ≡ self.now.agents }
         ensures numbered { IsNumbered self.now }
     {
-        self.agents.as_slice()
+        &self.agents
     }
 
     /// The next free id: the one that the next child gets.
@@ -136,21 +117,10 @@ impl World {
     pub fn copy(&self, alloc: Global) -> Result<World, NoMemory>
         ensures { IfOk result (λ copy. copy ≡ self.now) }
     {
-        let agents = copy_agents(alloc, self.agents())?;
+        let agents = self.agents.copy(alloc)?;
         Ok(World {
             agents,
             next: self.next,
         })
     }
-}
-
-/// Agents equal to these.
-fn copy_agents(alloc: Global, agents: &[Agent]) -> Result<Vec<Agent>, NoMemory>
-    ensures { IfOk result (λ copy. copy.items ≡ agents.now) }
-{
-    let mut copy = Vec::with_capacity(alloc, agents.len())?;
-    for agent in agents {
-        copy.push(agent.copy(alloc)?)?;
-    }
-    Ok(copy)
 }
