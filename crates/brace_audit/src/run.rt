@@ -82,7 +82,7 @@ fn follow<S: Shelf>(
     ensures faulted { (f : Fault) → result ≡ Err (found.Fault f) → end_of job.now ≡ Err f }
     ensures leaves { Leaves S.Shelf shelf.old shelf.new name.now (result ≡ Err found.Failed) }
 {
-    match expect_tick(alloc, job, job.first, &job.start, shelf, name, comparer) {
+    match expect_tick(alloc, comparer, shelf, name, job, job.first, &job.start) {
         Ok(()) => {}
         Err(fault) => return Err(fault),
     }

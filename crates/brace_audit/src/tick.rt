@@ -38,12 +38,12 @@ fn tick_rows(alloc: Global, job: &Job, tick: u64, world: &World) -> Result<Vec<u
 /// Compares what a file goes on by with the rows of a tick, where it is published.
 pub(crate) fn expect_tick<S: Shelf>(
     alloc: Global,
+    comparer: &mut Comparer,
+    shelf: &mut S,
+    name: &str,
     job: &Job,
     tick: u64,
     world: &World,
-    shelf: &mut S,
-    name: &str,
-    comparer: &mut Comparer,
 ) -> Result<(), AuditFault>
     requires { Comparing (S.held shelf.old) (S.stage shelf.old) name.now comparer.old }
     ensures goes_on { OnOk result (GoesOn (S.held shelf.old) (S.stage shelf.old) comparer.old
@@ -80,7 +80,7 @@ pub(crate) fn advance<S: Shelf>(
     ensures leaves { Leaves S.Shelf shelf.old shelf.new name.now (result ≡ Err found.Failed) }
 {
     match plain_step(alloc, job, tick, world) {
-        Ok(next) => match expect_tick(alloc, job, tick + 1, &next, shelf, name, comparer) {
+        Ok(next) => match expect_tick(alloc, comparer, shelf, name, job, tick + 1, &next) {
             Ok(()) => Ok(next),
             Err(fault) => Err(fault),
         },

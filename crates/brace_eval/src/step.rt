@@ -13,7 +13,7 @@ use crate::fault::StepFault;
 use crate::heard::{Heard, effects_of};
 use crate::update::left_by;
 use brace_draw::Drawer;
-use brace_model::{Agent, Fault, Job, Left, Parent, Program, World, with_earlier};
+use brace_model::{Agent, Fault, Herd, Job, Left, Parent, Program, World, with_earlier};
 use brace_num::NoMemory;
 use std::alloc::Global;
 
@@ -125,7 +125,9 @@ pub fn plain_step(alloc: Global, job: &Job, tick: u64, world: &World) -> Result<
     ensures faulted { IfErr result (λ e. (fault : Fault) → e ≡ StepFault.Fault fault
         → step job.now.program job.now.seed tick world.now ≡ Err fault) }
 {
-    let agents = world.agents();
+    let herd = world.agents();
+    let listed = herd.agents()?;
+    let agents = listed.as_slice();
     let heard = all_heard(alloc, &job.program, job.seed, tick, agents)?;
     if let Some(fault) = heard.least {
         return Err(StepFault::Fault(fault));
@@ -147,7 +149,8 @@ pub fn plain_step(alloc: Global, job: &Job, tick: u64, world: &World) -> Result<
         return Err(StepFault::Fault(birth_fault(&job.program, tick, parent)));
     }
     let (agents, next) = grown(nexts.living, world.next(), nexts.born)?;
-    match World::with_next(agents, next) {
+    let packed = Herd::of(alloc, agents.as_slice())?;
+    match World::with_next(packed, next) {
         Some(next) => Ok(next),
         None => unreachable!(),
     }

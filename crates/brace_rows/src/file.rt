@@ -14,7 +14,7 @@ ghost use Rattle.brace_rows.specs.inner.Registers.{IsRegister};
 use crate::record::read_agent;
 use crate::register::Register;
 use crate::{RowFault, RowKind};
-use brace_model::{Agent, Program, World};
+use brace_model::{Agent, Herd, Program, World};
 use brace_num::NoMemory;
 use csv::{ByteRecord, ReaderBuilder};
 use std::alloc::Global;
@@ -36,7 +36,7 @@ pub fn read_agents(alloc: Global, program: &Program, bytes: &[u8]) -> Result<Wor
     ensures lawful { IfOk result (λ world. LawfulAgents program.now world.agents) }
 {
     let register = read_records(alloc, program, bytes)?;
-    Ok(in_order(register.agents)?)
+    Ok(in_order(alloc, register.agents)?)
 }
 
 impl From<NoMemory> for RowFault {
@@ -99,7 +99,7 @@ fn enter_record(
 }
 
 // The world of agents of different ids.
-fn in_order(agents: Vec<Agent>) -> Result<World, NoMemory>
+fn in_order(alloc: Global, agents: Vec<Agent>) -> Result<World, NoMemory>
     requires differ { IsDistinct nat_eq (ids agents.items) }
     requires in_range { IsTrue (list_all (λ a. nat_le a.id greatest_id) agents.items) }
     ensures world { IfOk result (λ world. world ≡ world_of (by_id agents.items)) }
@@ -107,7 +107,8 @@ fn in_order(agents: Vec<Agent>) -> Result<World, NoMemory>
 {
     let mut agents = agents;
     agents.sort_by_key(|agent| agent.id)?;
-    match World::from_rising(agents) {
+    let herd = Herd::of(alloc, agents.as_slice())?;
+    match World::from_rising(herd) {
         Some(world) => Ok(world),
         None => unreachable!(),
     }

@@ -1,13 +1,14 @@
 //! Agents at drawn places.
-ghost use Rattle.std.specs.Prelude.{◌≡◌, ◌≤◌, ◌^◌, true, IfOk, OnOk};
+ghost use Rattle.std.specs.Prelude.{◌≡◌, ◌≤◌, ◌^◌, ◌++◌, ◌∷◌, [], true, IfOk, OnOk};
 ghost use Rattle.brace_num.specs.Generator.{following};
 ghost use Rattle.brace_model.specs.declared.program.Program.{Program};
+ghost use Rattle.brace_model.specs.declared.program.Value.TheVariants.{Fixed};
 ghost use Rattle.brace_model.specs.World.{IsNumbered, world_of};
 ghost use Rattle.brace_model.specs.Lawful.{LawfulAgents};
 ghost use Rattle.brace_rows.specs.MadeAgents.{coordinate, agent_at, has_four_fixed, made_agents};
 
-use brace_model::{Agent, Value, World};
-use brace_num::{Generator, List, NoMemory};
+use brace_model::{Herd, Ty, World};
+use brace_num::{Generator, NoMemory};
 use std::alloc::Global;
 
 /// The world of `count` agents of class 0 with the ids from 0 on, at most 1,048,576. Each has four
@@ -21,9 +22,9 @@ pub fn make_agents(alloc: Global, seed: u64, count: u32) -> Result<World, NoMemo
         → IfOk result (λ world. LawfulAgents program world.agents) }
 {
     let mut generator = Generator::new(seed);
-    let mut agents = Vec::with_capacity(alloc, count as usize)?;
+    let mut agents = Herd::with_room(alloc, count as usize, 4 * count as usize)?;
     for id in 0..count {
-        agents.push(make_agent(alloc, &mut generator, id)?)?;
+        add_agent(&mut agents, &mut generator, id)?;
     }
     match World::from_rising(agents) {
         Some(world) => Ok(world),
@@ -31,23 +32,24 @@ pub fn make_agents(alloc: Global, seed: u64, count: u32) -> Result<World, NoMemo
     }
 }
 
-fn make_agent(alloc: Global, generator: &mut Generator, id: u32) -> Result<Agent, NoMemory>
-    ensures agent { IfOk result (λ agent. agent ≡
-        agent_at id (following generator.old) (following (following generator.old))) }
+/// The types of a made agent's states: two coordinates and two speeds.
+const TYPES: [Ty; 4] = [Ty::Fixed, Ty::Fixed, Ty::Fixed, Ty::Fixed];
+
+/// One more agent, at the place of the next two draws.
+fn add_agent(agents: &mut Herd, generator: &mut Generator, id: u32) -> Result<(), NoMemory>
+    ensures agent { OnOk result (agents.new ≡ agents.old
+        ++ agent_at id (following generator.old) (following (following generator.old)) ∷ []) }
     ensures drawn { OnOk result (generator.new ≡ following (following generator.old)) }
 {
     let x = coordinate(generator.draw());
     let y = coordinate(generator.draw());
-    let states = [x, y, Value::Fixed(0), Value::Fixed(0)];
-    Ok(Agent {
-        class: 0,
-        id: u64::from(id),
-        states: List::from_vec(Vec::from_slice(alloc, &states)?),
-    })
+    let states = [x, y, 0, 0];
+    agents.push(0, u64::from(id), &TYPES, &states)
 }
 
-fn coordinate(number: u32) -> Value
-    ensures { result ≡ coordinate number }
+/// A 32-bit number as a part of a thousand units, in millionths.
+fn coordinate(number: u32) -> i64
+    ensures { Fixed result ≡ coordinate number }
 {
-    Value::Fixed((u64::from(number) * 1_000_000_000 / 4_294_967_296) as i64)
+    (u64::from(number) * 1_000_000_000 / 4_294_967_296) as i64
 }

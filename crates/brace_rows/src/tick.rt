@@ -2,7 +2,7 @@ ghost use Rattle.std.specs.Prelude.{◌≡◌, ◌++◌, take, length, OnOk, OnE
 ghost use Rattle.brace_model.specs.Published.{row, rows};
 
 use crate::print_agent;
-use brace_model::{Agent, Program, World};
+use brace_model::{Agent, Herd, Program, World};
 use brace_num::{NoMemory, print_count};
 
 /// Appends the rows of a world at a tick: a line `tick,class,id,values` for each agent, by rising
@@ -29,7 +29,7 @@ pub fn print_rows(
     out: &mut Vec<u8>,
     program: &Program,
     tick: u64,
-    agents: &[Agent],
+    agents: &Herd,
 ) -> Result<(), NoMemory>
     ensures printed { OnOk result (out.new.items
         ≡ out.old.items ++ rows program.now tick agents.now) }
@@ -48,15 +48,18 @@ pub fn print_rows(
 fn append_rows(
     program: &Program,
     tick: u64,
-    agents: &[Agent],
+    agents: &Herd,
     out: &mut Vec<u8>,
 ) -> Result<(), NoMemory>
     ensures printed { OnOk result (out.new.items
         ≡ out.old.items ++ rows program.now tick agents.now) }
     ensures only_appends { take (length out.old.items) out.new.items ≡ out.old.items }
 {
-    for agent in agents {
-        append_row(out, program, tick, agent)?;
+    let mut values = agents.no_values();
+    for place in 0..agents.len() {
+        let agent = agents.agent(place, values)?;
+        append_row(out, program, tick, &agent)?;
+        values = agent.states.into_vec();
     }
     Ok(())
 }

@@ -16,7 +16,7 @@ ghost use Rattle.brace_save.specs.inner.Steps.{IsCountAt, IsHeading, IsFront, Ma
 
 use crate::line::{agent_in, count_in, field_at, is_class_line, is_end_line};
 use crate::{Point, PointFault};
-use brace_model::{Agent, Program, World};
+use brace_model::{Agent, Herd, Program, World};
 use brace_num::NoMemory;
 use std::alloc::Global;
 
@@ -103,10 +103,11 @@ fn read_lines(
     read_classes(alloc, program, heading, lines)?;
     let agents = read_agents(alloc, program, heading, lines)?;
     read_end(alloc, program, heading, lines, rest, agents.as_slice())?;
+    let herd = Herd::of(alloc, agents.as_slice())?;
     Ok(Point {
         tick: heading.tick,
         seed: heading.seed,
-        world: world_of(heading, agents),
+        world: world_of(heading, herd),
     })
 }
 
@@ -301,9 +302,9 @@ fn read_end(
 }
 
 // The world of a moment that may be told.
-fn world_of(heading: Heading, agents: Vec<Agent>) -> World
-    requires { IsNumbered (told heading agents.items).world }
-    ensures { result ≡ (told heading agents.items).world }
+fn world_of(heading: Heading, agents: Herd) -> World
+    requires { IsNumbered (told heading agents).world }
+    ensures { result ≡ (told heading agents).world }
 {
     let world = if heading.tells_next {
         World::with_next(agents, heading.next)

@@ -3,7 +3,7 @@ ghost use Rattle.brace_model.specs.World.{world_with};
 ghost use Rattle.brace_model.specs.Published.{agent_text};
 ghost use Rattle.brace_save.specs.Texts.{type_name, state_text, class_line, count_line, heading, text, checkpoint};
 
-use brace_model::{Agent, Class, Program, State, Ty, World, has_births};
+use brace_model::{Agent, Class, Herd, Program, State, Ty, World, has_births};
 use brace_num::{NoMemory, print_count};
 use brace_rows::print_agent;
 
@@ -30,7 +30,7 @@ pub fn write_moment(
     program: &Program,
     tick: u64,
     seed: u64,
-    agents: &[Agent],
+    agents: &Herd,
     next: u64,
 ) -> Result<(), NoMemory>
     ensures written { OnOk result (out.new.items ≡ out.old.items ++ checkpoint program.now
@@ -51,7 +51,7 @@ fn append_checkpoint(
     program: &Program,
     tick: u64,
     seed: u64,
-    agents: &[Agent],
+    agents: &Herd,
     next: u64,
     out: &mut Vec<u8>,
 ) -> Result<(), NoMemory>
@@ -119,13 +119,16 @@ fn append_classes(out: &mut Vec<u8>, classes: &[Class]) -> Result<(), NoMemory>
 }
 
 #[tactic(auto, using(crate::proofs::Starts::text_starts))]
-fn append_agents(out: &mut Vec<u8>, program: &Program, agents: &[Agent]) -> Result<(), NoMemory>
+fn append_agents(out: &mut Vec<u8>, program: &Program, agents: &Herd) -> Result<(), NoMemory>
     ensures printed { OnOk result (out.new.items
         ≡ out.old.items ++ flat_map (λ a. agent_text program.now a ++ 10 ∷ []) agents.now) }
     ensures only_appends { take (length out.old.items) out.new.items ≡ out.old.items }
 {
-    for agent in agents {
-        append_agent(out, program, agent)?;
+    let mut values = agents.no_values();
+    for place in 0..agents.len() {
+        let agent = agents.agent(place, values)?;
+        append_agent(out, program, &agent)?;
+        values = agent.states.into_vec();
     }
     Ok(())
 }

@@ -1,6 +1,7 @@
 use Rattle.std.proofs.Common.{◌≡◌, ◌<◌, ◌∙◌, ℕ, List, Bor, map, length, sym, ap, subst, rules, Result, Ok, Err}
 use Rattle.brace_num.proofs.Options.{ok_same}
 use Rattle.brace_model.specs.declared.world.Agent.{Agent}
+use Rattle.brace_model.specs.World.{IsNumbered}
 use Rattle.brace_save.specs.declared.kinds.Point.{Point}
 use Rattle.brace_save.specs.Lines.{AreOf, IsRead, read}
 use Rattle.brace_save.specs.inner.Spelled.{IsAgentLine}
@@ -29,6 +30,16 @@ returns-clause-point c = λ lawful point e.
     let same : c.as_slice.result.now ≡ c.in_ok-agents.agents.items = c.as_slice.ensures.value in
     let (are, none) = c.in_ok-read_end.ensures.whole in
     let mine : AreOf c.args.program.now (told h c.in_ok-agents.agents.items) all = subst (λ l. AreOf c.args.program.now (told h l) all) same are in
+    let packed : told h c.in_ok-agents.agents.items ≡ told h c.in_ok-herd.herd =
+    ap (told h) (sym (c.in_ok-herd.ensures ∙ c.as_slice-2.ensures.value)) in
     let moment : told h c.in_ok-agents.agents.items ≡ moment_in point =
-    ap (λ w. record { tick = h.tick; seed = h.seed; world = w }) (sym c.world_of.ensures) ∙ ap moment_in (ok_same (record { tick = h.tick; seed = h.seed; world = c.world_of.result }) point e) in
+    packed
+    ∙ ap (λ w. record { tick = h.tick; seed = h.seed; world = w }) (sym c.world_of.ensures)
+    ∙ ap moment_in (ok_same (record { tick = h.tick; seed = h.seed; world = c.world_of.result }) point e) in
     subst (λ m. IsRead c.args.program.now all c.args.rest.now (Ok m)) moment (read (told h c.in_ok-agents.agents.items) mine none)
+
+pub world_of-requires : goal.world_of-requires
+world_of-requires c =
+    let h = c.in_ok-heading.heading in
+    let packed = c.in_ok-herd.ensures ∙ c.as_slice-2.ensures.value in
+    subst (λ l. IsNumbered (told h l).world) (sym packed) c.in_ok-agents.ensures.stand.moment_is.numbered
