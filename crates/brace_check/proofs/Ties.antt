@@ -292,17 +292,24 @@ local_past m few count (local.Constant k t) is = (let under : k < few = is.0 in 
 local_past m few count (local.Loop loops (Some class)) is = is
 local_past m few count (local.Loop loops None) is = is
 
-pub tied_past : (n : Scope) (m : Names) (count : ℕ) → Tied n m → Tied (past count n) m
-tied_past n m count h = record {
+-- with other constants and other locals
+tied_anew : (n : Scope) (m : Names) (known : List (ℕ × Ty)) (constants : ℕ) (locals : List (List ℕ × Local)) → Tied n m
+    → AllByRecursion (λ (e : List ℕ × Local). LocalIs (record m { known = known }) constants e.1) locals
+    → Tied (record n { constants = constants; locals = locals }) (record m { known = known })
+tied_anew n m known constants locals h are = record {
   own = h.own;
   others = h.others;
   classes = h.classes;
   number = h.number;
   in_rule = h.in_rule;
   loops = h.loops;
-  locals = each_weaker (λ (e : List ℕ × Local). LocalIs m n.constants e.1) (λ (e : List ℕ × Local). LocalIs m (n.constants + count) e.1)
-      (λ e is. local_past m n.constants count e.1 is) n.locals h.locals;
+  locals = are;
 }
+
+pub tied_past : (n : Scope) (m : Names) (count : ℕ) → Tied n m → Tied (past count n) m
+tied_past n m count h = tied_anew n m m.known (n.constants + count) n.locals h
+    (each_weaker (λ (e : List ℕ × Local). LocalIs m n.constants e.1) (λ (e : List ℕ × Local). LocalIs m (n.constants + count) e.1)
+    (λ e is. local_past m n.constants count e.1 is) n.locals h.locals)
 
 -- behind the declaration of a constant
 module _ (m : Names) (number : ℕ) (t : Ty) where
@@ -323,18 +330,11 @@ module _ (m : Names) (number : ℕ) (t : Ty) where
       (omega arith, ap (λ (b : Bool). if b then Some t else constant_type m.known number) self)
 
 pub tied_declared : (n : Scope) (m : Names) (name : Ident) (t : Ty) → Tied n m → Tied (past 1 (declaring name t n)) (knowing m n.constants t)
-tied_declared n m name t h = record {
-  own = h.own;
-  others = h.others;
-  classes = h.classes;
-  number = h.number;
-  in_rule = h.in_rule;
-  loops = h.loops;
-  locals = named_too (λ (key : List ℕ) (l : Local). LocalIs (knowing m n.constants t) (n.constants + 1) l) n.locals name.text (local.Constant n.constants t)
-      (each_weaker (λ (e : List ℕ × Local). LocalIs m n.constants e.1) (λ (e : List ℕ × Local). LocalIs (knowing m n.constants t) (n.constants + 1) e.1)
-      (λ e is. local_known m n.constants t e.1 is) n.locals h.locals)
-      (last_known m n.constants t);
-}
+tied_declared n m name t h = tied_anew n m (knowing m n.constants t).known (n.constants + 1) (declaring name t n).locals h
+    (named_too (λ (key : List ℕ) (l : Local). LocalIs (knowing m n.constants t) (n.constants + 1) l) n.locals name.text (local.Constant n.constants t)
+    (each_weaker (λ (e : List ℕ × Local). LocalIs m n.constants e.1) (λ (e : List ℕ × Local). LocalIs (knowing m n.constants t) (n.constants + 1) e.1)
+    (λ e is. local_known m n.constants t e.1 is) n.locals h.locals)
+    (last_known m n.constants t))
 
 -- a loop over the class of a number is entered
 pub record Entered (m : Names) (loops number : ℕ) : Type 0 where

@@ -251,21 +251,6 @@ fn member<'a>(
     member_in(out, &mut scope, one)
 }
 
-fn each_member<'a>(
-    alloc: Global,
-    out: &mut Vec<CheckFault>,
-    home: &Home<'_, 'a>,
-    members: &'a [MemberTree],
-) -> Result<(), NoMemory>
-    ensures { OnOk result (out.new.items ≡ out.old.items
-        ++ flat_map (member home.now) members.now) }
-{
-    for one in members {
-        member(alloc, out, home, one)?;
-    }
-    Ok(())
-}
-
 // Notes what is found in the class of a number.
 fn class<'a>(
     alloc: Global,
@@ -283,7 +268,10 @@ fn class<'a>(
         number,
         own: &own,
     };
-    each_member(alloc, out, &home, one.members.as_slice())
+    for tree in one.members.as_slice() {
+        member(alloc, out, &home, tree)?;
+    }
+    Ok(())
 }
 
 // Notes what is found in classes.

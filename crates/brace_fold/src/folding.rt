@@ -28,9 +28,9 @@ fn ask_rows(
     alloc: Global,
     plans: &Plans,
     program: &Program,
+    columns: &Columns,
     seed: u64,
     tick: u64,
-    columns: &Columns,
     asking: &[u32],
     said: &mut Table,
 ) -> Result<(), Redo>
@@ -69,7 +69,7 @@ fn ask_agents(
     let rows = columns_of(alloc, program, agents, &[])?;
     let states = views(alloc, &rows.states)?;
     let columns = rows.as_columns(&states);
-    ask_rows(alloc, plans, program, seed, tick, &columns, asking, said)
+    ask_rows(alloc, plans, program, &columns, seed, tick, asking, said)
 }
 
 /// Joins to what was heard all that the queries of the agents at some places of a list say, over

@@ -42,7 +42,7 @@ pub use columns::{Columns, expect_wide, views};
 pub use folding::fold;
 pub use joining::most_effects;
 pub use lists::columns_of;
-pub use order::Moved;
+pub use order::{Moved, rows_from};
 pub use renewal::{Renewed, renew_rows};
 pub use renewing::renew;
 pub use table::{Sum, Table};

@@ -1,5 +1,5 @@
-ghost use Rattle.std.specs.Prelude.{◌≡◌, ◌++◌, length, IfOk};
-ghost use Rattle.brace_fold.specs.Rows.{AreMoved, HasRoom, rows_in};
+ghost use Rattle.std.specs.Prelude.{◌≡◌, ◌++◌, Some, length, slice_get, IfOk};
+ghost use Rattle.brace_fold.specs.Rows.{AreMoved, HasRoom, row_in, rows_in};
 
 use crate::columns::{
     Columns, class_column, class_in, each, id_column, most_states, state_columns, states_of,
@@ -40,6 +40,28 @@ pub fn vector_of(alloc: Global, used: Option<Agent>) -> Vec<Value> {
     }
 }
 
+/// The agent of a row, with its states in the vector of an agent that is not needed any more.
+pub fn agent_at(
+    alloc: Global,
+    program: &Program,
+    columns: &Columns,
+    row: u32,
+    used: &mut Vec<Agent>,
+) -> Result<Agent, Redo>
+    ensures is { IfOk result (λ a. a ≡ row_in program.now columns.now row) }
+    ensures there { IfOk result (λ a. slice_get (rows_in program.now columns.now) row ≡ Some a) }
+{
+    let Some(number) = class_in(columns, row) else {
+        return Err(Redo);
+    };
+    let Some(class) = program.classes.as_slice().get(number as usize) else {
+        return Err(Redo);
+    };
+    let values = vector_of(alloc, used.pop());
+    let agent = agent_in(class, number, columns, row, values)?;
+    Ok(agent)
+}
+
 /// The agents of columns, row by row, with their states in the vectors of agents that are not
 /// needed any more.
 pub fn agents_of(
@@ -55,14 +77,7 @@ pub fn agents_of(
         let Ok(row) = u32::try_from(k) else {
             return Err(Redo);
         };
-        let Some(number) = class_in(columns, row) else {
-            return Err(Redo);
-        };
-        let Some(class) = program.classes.as_slice().get(number as usize) else {
-            return Err(Redo);
-        };
-        let values = vector_of(alloc, used.pop());
-        let agent = agent_in(class, number, columns, row, values)?;
+        let agent = agent_at(alloc, program, columns, row, &mut used)?;
         agents.push(agent)?;
     }
     Ok(agents)

@@ -1,4 +1,4 @@
-ghost use Rattle.std.specs.Prelude.{◌≡◌, ◌++◌, List, Some, length, slice_get, IsTrue, IfOk, OnOk};
+ghost use Rattle.std.specs.Prelude.{◌≡◌, ◌++◌, List, length, IsTrue, IfOk, OnOk};
 ghost use Rattle.std.specs.List.{list_all};
 ghost use Rattle.brace_model.specs.declared.world.Agent.{Agent};
 ghost use Rattle.brace_model.specs.Lawful.{is_lawful_agent};
@@ -6,34 +6,13 @@ ghost use Rattle.brace_fold.specs.Asked.{by_row};
 ghost use Rattle.brace_fold.specs.Listed.{AreListed, agents_in};
 ghost use Rattle.brace_fold.specs.Rows.{AreMoved, rows_in, IsPicked};
 
-use crate::columns::{Columns, class_in, expect_wide, views};
-use crate::lists::{agents_of, vector_of};
+use crate::columns::{Columns, expect_wide, views};
+use crate::lists::{agent_at, agents_of};
 use crate::order::Moved;
-use crate::surviving::{agent_in, push_agent};
+use crate::surviving::push_agent;
 use brace_code::Redo;
 use brace_model::{Agent, Program};
 use std::alloc::Global;
-
-/// The agent of a row, with its states in the vector of an agent that is not needed any more.
-fn agent_at(
-    alloc: Global,
-    program: &Program,
-    columns: &Columns,
-    row: u32,
-    used: &mut Vec<Agent>,
-) -> Result<Agent, Redo>
-    ensures { IfOk result (λ a. slice_get (rows_in program.now columns.now) row ≡ Some a) }
-{
-    let Some(number) = class_in(columns, row) else {
-        return Err(Redo);
-    };
-    let Some(class) = program.classes.as_slice().get(number as usize) else {
-        return Err(Redo);
-    };
-    let values = vector_of(alloc, used.pop());
-    let agent = agent_in(class, number, columns, row, values)?;
-    Ok(agent)
-}
 
 /// The agents of some rows, with their states in the vectors of agents that are not needed any more.
 fn picked_agents(

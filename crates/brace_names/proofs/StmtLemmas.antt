@@ -1,10 +1,11 @@
 -- The scope behind the statements of a block, statements that declare the same, and classes in turn.
-use Rattle.std.proofs.Common.{◌≡◌, refl, sym, ap, ◌∙◌, ℕ, ◌+◌, List, [], ◌∷◌, ◌++◌, take, drop, get_or, length, flat_map, ◌<◌, append_assoc, arith, inl, inr}
+use Rattle.std.proofs.Common.{◌≡◌, refl, sym, ap, subst, ◌∙◌, ℕ, ◌+◌, List, [], ◌∷◌, ◌++◌, take, drop, get_or, length, map, flat_map, ◌<◌, ◌≤◌, append_assoc, arith, inl, inr}
 use Rattle.std.specs.Prelude.{Option, Some, None}
 use Rattle.std.proofs.lemmas.Bool.{cases_Bool}
 use Rattle.std.proofs.lemmas.List.{append-nil, drop_more}
 use Rattle.std.proofs.lemmas.List.Sums.{sum_by-cons}
 use Rattle.std.proofs.Math.Seq.{take-append_seam}
+use Rattle.std.proofs.Math.ListN.{drop_of_length-le}
 use Rattle.brace_syntax.specs.declared.tree.Ident.{Ident}
 use Rattle.brace_syntax.specs.declared.tree.MemberTree.{MemberTree}
 use Rattle.brace_syntax.specs.declared.tree.ClassTree.{ClassTree}
@@ -75,6 +76,15 @@ module _ {A : Type 0} where
       let g : Grown scope (behind_all parts scope) (constants_in parts) = grows parts scope in
       ap (λ (s : Scope). record s { loops = scope.loops; locals = take (length scope.locals) s.locals }) (e ∙ g.is)
       ∙ ap (λ (l : List (List ℕ × Local)). record scope { locals = l; constants = scope.constants + constants_in parts }) (take-append_seam scope.locals g.more)
+
+  -- what a loop over the statements of a block leaves of the scope, once it has come to their end
+  pub left_by_loop : {T : Type 0} (part : T → Part A) (statements items : List T) (i : ℕ) (scope now : Scope)
+      → items ≡ statements → length items ≤ i → behind_all (map part (drop i statements)) now ≡ behind_all (map part statements) scope
+      → record now { loops = scope.loops; locals = take (length scope.locals) now.locals } ≡ past (constants_in (map part statements)) scope
+  left_by_loop {T = T} part statements items i scope now same over so_far =
+      let end : length statements ≤ i = subst (λ (l : List T). length l ≤ i) same over in
+      left_behind (map part statements) scope now
+      (ap (λ (l : List T). behind_all (map part l) now) (sym (drop_of_length-le statements end)) ∙ so_far)
 
 -- two parts declare the same
 pub record Same {A B : Type 0} (p : Part A) (q : Part B) : Type 0 where
