@@ -41,5 +41,11 @@ module _ {P : Type 0} (before lent after rest : List (Member P)) (n : ℕ) (valu
   members_back s publisher numbers are actors opened = subst (AreMembers s publisher numbers) (sym is)
       (are_later s publisher numbers before after are same_setting (actors ∙ ap (map (λ m. (course_of m).actor)) value) (opened ∙ ap (map opening_of) value))
 
+  -- of some publisher
+  pub some_back : (s : Setting) (publisher : P) → AreMembers s publisher (all_numbers s) before
+      → map (λ m. (course_of m).actor) after ≡ map (λ m. (course_of m).actor) lent
+      → map opening_of after ≡ map opening_of lent → (q : P) × AreMembers s q (all_numbers s) (take n (after ++ rest))
+  some_back s publisher are actors opened = (publisher, members_back s publisher (all_numbers s) are actors opened)
+
   pub ended_back : (s : Setting) (end : ℕ) → AreEnded s end after → AreEnded s end (take n (after ++ rest))
   ended_back s end = subst (AreEnded s end) (sym is)

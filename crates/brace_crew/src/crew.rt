@@ -29,7 +29,7 @@ use brace_core::{PlainLanes, run_in_order};
 use brace_model::{Fault, with_earlier};
 use brace_num::{List, NoMemory};
 use brace_part::{Counts, Part};
-use brace_pieces::{Cause, Fronts, Piece, Setting, Shown, moves_of};
+use brace_pieces::{Cause, Fronts, Piece, Setting, Shown, owned_of};
 use std::alloc::Global;
 
 /// Why a run did not come to its last tick, or not all of it was published.
@@ -56,7 +56,7 @@ fn part_of<'a>(alloc: Global, setting: &'a Setting, number: u32) -> Result<Part<
     ensures { IfOk result (λ part. part.course ≡ at_start setting.now number) }
 {
     let job = &setting.job;
-    let own = moves_of(alloc, setting, job.first, job.start.agents(), number)?;
+    let own = owned_of(alloc, setting, job.first, job.start.agents(), number)?;
     Part::make(alloc, setting, number, own.into_vec())
 }
 
@@ -190,10 +190,7 @@ fn picked(alloc: Global, ticks: &[u64], worlds: &[Shown]) -> Result<Option<Vec<S
 fn copy_of(alloc: Global, world: &Shown) -> Result<Shown, NoMemory>
     ensures { IfOk result (λ copy. copy ≡ world.now) }
 {
-    let mut agents = List::new(alloc);
-    for a in world.agents.as_slice() {
-        agents.push(a.copy(alloc)?)?;
-    }
+    let agents = world.agents.copy(alloc)?;
     Ok(Shown {
         tick: world.tick,
         agents,

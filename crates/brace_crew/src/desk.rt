@@ -4,14 +4,14 @@ ghost use Rattle.std.specs.Vec.{vec_capacity};
 ghost use Rattle.brace_io.specs.Counts.{Rose};
 ghost use Rattle.brace_core.specs.declared.name.Name.{Name};
 ghost use Rattle.brace_core.specs.declared.name.Turn.TheVariants as turn;
-ghost use Rattle.brace_core.specs.Exchanges.{due, IsPut, IsTake};
+ghost use Rattle.brace_core.specs.Exchanges.{IsPut, IsTake};
 ghost use Rattle.brace_pieces.specs.declared.piece.Cause.{Cause};
 ghost use Rattle.brace_pieces.specs.declared.piece.Cause.TheVariants as cause;
 ghost use Rattle.brace_pieces.specs.Settings.{LawfulSetting, parts, shown_ticks};
 ghost use Rattle.brace_pieces.specs.Numbers.{NumbersFit};
-ghost use Rattle.brace_pieces.specs.Steps.{schedule};
 ghost use Rattle.brace_pieces.specs.Right.{IsRight};
 ghost use Rattle.brace_pieces.specs.Courses.{IsCourse, at_start, gone_on, past_of, turn_of};
+ghost use Rattle.brace_part.specs.Parts.{due_on};
 ghost use Rattle.brace_crew.specs.declared.publisher.PubFault.{PubFault};
 ghost use Rattle.brace_crew.specs.declared.publisher.PubFault.TheVariants as fault;
 ghost use Rattle.brace_crew.specs.declared.desk.Stop.{Stop};
@@ -272,10 +272,8 @@ impl<'a, P: Publisher> Actor<Piece> for Desk<'a, P> {
     }
 
     fn piece(&mut self) -> Piece
-        requires { IsPut (due schedule self.old.course.setting self.old.course.actor
-            (past_of self.old.course)) }
-        ensures right { (name : Name) → due schedule self.old.course.setting
-            self.old.course.actor (past_of self.old.course) ≡ turn.Put name
+        requires { IsPut (due_on self.old.course) }
+        ensures right { (name : Name) → due_on self.old.course ≡ turn.Put name
             → IsRight self.old.course.setting name result }
         ensures goes_on { past_of self.new.course ≡ past_of self.old.course + 1 }
         ensures same_setting { self.new.course.setting ≡ self.old.course.setting }
@@ -289,10 +287,8 @@ impl<'a, P: Publisher> Actor<Piece> for Desk<'a, P> {
     }
 
     fn give(&mut self, piece: Piece)
-        requires turn { IsTake (due schedule self.old.course.setting self.old.course.actor
-            (past_of self.old.course)) }
-        requires right { (name : Name) → due schedule self.old.course.setting
-            self.old.course.actor (past_of self.old.course) ≡ turn.Take name
+        requires turn { IsTake (due_on self.old.course) }
+        requires right { (name : Name) → due_on self.old.course ≡ turn.Take name
             → IsRight self.old.course.setting name piece }
         ensures goes_on { past_of self.new.course ≡ past_of self.old.course + 1 }
         ensures same_setting { self.new.course.setting ≡ self.old.course.setting }
@@ -327,8 +323,7 @@ impl<'a, P: Publisher> Actor<Piece> for Desk<'a, P> {
     }
 
     fn work(&mut self)
-        requires { due schedule self.old.course.setting self.old.course.actor
-            (past_of self.old.course) ≡ turn.Work }
+        requires { due_on self.old.course ≡ turn.Work }
         ensures goes_on { past_of self.new.course ≡ past_of self.old.course + 1 }
         ensures same_setting { self.new.course.setting ≡ self.old.course.setting }
         ensures same_number { self.new.course.actor ≡ self.old.course.actor }

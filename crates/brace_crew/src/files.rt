@@ -65,7 +65,7 @@ pub(crate) fn saved_file(
         &job.program,
         tick,
         job.seed,
-        world.agents.as_slice(),
+        &world.agents,
         world.next,
     )?;
     Ok(Some((file_name(alloc, name, tick)?, List::from_vec(bytes))))

@@ -8,8 +8,8 @@ ghost use Rattle.brace_crew.specs.Desks.{whole_at};
 ghost use Rattle.brace_crew.specs.inner.Lots.{brought, added_to, IsSortedWorld};
 
 use crate::desk::Lot;
-use brace_num::{List, NoMemory};
-use brace_pieces::{Shown, sorted};
+use brace_num::NoMemory;
+use brace_pieces::Shown;
 use std::alloc::Global;
 
 /// Worlds of some ticks, each with the agents of others of the same ticks behind its own.
@@ -18,11 +18,11 @@ fn added(alloc: Global, worlds: Vec<Shown>, more: Vec<Shown>) -> Result<Vec<Show
 {
     let mut all = Vec::new(alloc);
     for (world, other) in worlds.into_iter().zip(more) {
-        let mut agents = world.agents.into_vec();
-        agents.append(&mut other.agents.into_vec())?;
+        let mut agents = world.agents;
+        agents.append(other.agents)?;
         all.push(Shown {
             tick: world.tick,
-            agents: List::from_vec(agents),
+            agents,
             next: world.next,
         })?;
     }
@@ -35,10 +35,11 @@ fn all_sorted(alloc: Global, worlds: Vec<Shown>) -> Result<Vec<Shown>, NoMemory>
 {
     let mut all = Vec::new(alloc);
     for world in worlds {
-        let agents = sorted(world.agents.into_vec())?;
+        let mut agents = world.agents;
+        agents.sort();
         all.push(Shown {
             tick: world.tick,
-            agents: List::from_vec(agents),
+            agents,
             next: world.next,
         })?;
     }

@@ -27,7 +27,7 @@ fn append_world(text: &mut Vec<u8>, job: &Job, fresh: bool, world: &Shown) -> Re
     if !is_published(job, fresh, world.tick) {
         return Ok(());
     }
-    print_rows(text, &job.program, world.tick, world.agents.as_slice())
+    print_rows(text, &job.program, world.tick, &world.agents)
 }
 
 /// The rows of those worlds whose ticks are published.

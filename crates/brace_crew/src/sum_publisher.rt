@@ -1,10 +1,11 @@
-ghost use Rattle.std.specs.Prelude.{◌≡◌, pos};
+ghost use Rattle.std.specs.Prelude.{◌≡◌, ◌<◌, length, pos, slice_index_or};
+ghost use Rattle.brace_model.specs.declared.world.Agent.{Agent};
 ghost use Rattle.brace_model.specs.World.{x_of, y_of};
 ghost use Rattle.brace_crew.specs.Sums.{place_along, sums_of};
 
 use crate::{PubFault, Publisher};
-use brace_model::{Agent, Program, class_of, x_of, y_of};
-use brace_pieces::{Setting, Shown};
+use brace_model::{Herd, Program};
+use brace_pieces::{Setting, Shown, class_at};
 use std::alloc::Global;
 use std::marker::Model;
 
@@ -67,30 +68,33 @@ impl Publisher for SumPublisher {
         shown: &[Shown],
     ) -> Result<(), PubFault> {
         if let Some(world) = shown.last() {
-            self.sums = sums(&setting.job.program, world.agents.as_slice());
+            self.sums = sums(&setting.job.program, &world.agents);
         }
         Ok(())
     }
 }
 
-/// Where an agent of a program stands, in millionths, along x and along y.
-fn place(program: &Program, agent: &Agent) -> (i64, i64)
-    ensures x { result.0 ≡ place_along x_of program.now agent.now }
-    ensures y { result.1 ≡ place_along y_of program.now agent.now }
+/// Where the agent at a place stands, in millionths, along x and along y.
+fn place(program: &Program, agents: &Herd, at: usize) -> (i64, i64)
+    requires { at < length agents.now }
+    ensures x { (d : Agent)
+        → result.0 ≡ place_along x_of program.now (slice_index_or agents.now at d) }
+    ensures y { (d : Agent)
+        → result.1 ≡ place_along y_of program.now (slice_index_or agents.now at d) }
 {
-    match class_of(program, agent) {
+    match class_at(program, agents, at) {
         None => (0, 0),
-        Some(class) => (x_of(class, agent), y_of(class, agent)),
+        Some(class) => (agents.number(at, class.x), agents.number(at, class.y)),
     }
 }
 
 /// The sums of where agents stand, in millionths, along x and along y.
-fn sums(program: &Program, agents: &[Agent]) -> (i128, i128)
+fn sums(program: &Program, agents: &Herd) -> (i128, i128)
     ensures { result ≡ sums_of program.now agents.now }
 {
     let (mut along_x, mut along_y) = (0, 0);
-    for agent in agents {
-        let (x, y) = place(program, agent);
+    for at in 0..agents.len() {
+        let (x, y) = place(program, agents, at);
         along_x += i128::from(x);
         along_y += i128::from(y);
     }

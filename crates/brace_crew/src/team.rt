@@ -257,9 +257,9 @@ fn run_on<'a, R: Threads + Wait + Sync, P: Publisher + Send, G: Gate + Sync>(
     rt: &R,
     alloc: Global,
     setting: &'a Setting,
+    workers: u32,
     lanes: &'a Lanes<Piece>,
     seats: Vec<LaneSeat<Piece>>,
-    workers: u32,
     publisher: P,
     gate: &G,
 ) -> (P, Vec<LaneSeat<Piece>>, Result<Counts, CrewFault>)
@@ -342,7 +342,7 @@ pub fn crew_run<R: Threads + Wait + Sync, P: Publisher + Send, G: Gate + Sync>(
         return (publisher, Vec::new(alloc), answer);
     }
     match Lanes::make(alloc, setting, actors(setting), workers) {
-        Ok((lanes, seats)) => run_on(rt, alloc, setting, &lanes, seats, workers, publisher, gate),
+        Ok((lanes, seats)) => run_on(rt, alloc, setting, workers, &lanes, seats, publisher, gate),
         Err(NoMemory) => (publisher, Vec::new(alloc), Err(CrewFault::NoMemory)),
     }
 }

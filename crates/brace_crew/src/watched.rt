@@ -32,8 +32,15 @@ fn append_figures(
         return Ok(());
     }
     let cuts = setting.cuts.cuts_at(world.tick);
-    let agents = world.agents.as_slice();
-    print_watched(alloc, text, &job.program, watches, cuts, world.tick, agents)
+    print_watched(
+        alloc,
+        text,
+        &job.program,
+        watches,
+        cuts,
+        world.tick,
+        &world.agents,
+    )
 }
 
 /// The figures of those worlds whose ticks are published.

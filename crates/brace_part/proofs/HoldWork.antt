@@ -76,11 +76,11 @@ module _ (worker : Worker) (part : IsWorker worker) (t : ℕ) where
   abbrev s : Setting
   s = worker.setting.now
 
-  abbrev p : ℕ
-  p = worker.part
-
   abbrev m : Program
   m = s.job.program
+
+  abbrev p : ℕ
+  p = worker.part
 
   abbrev all : List Agent
   all = all_near s p t

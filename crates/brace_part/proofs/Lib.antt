@@ -12,6 +12,7 @@ pub mod LaneLemmas
 pub mod SumsLemmas
 pub mod HoldLemmas
 pub mod NearLemmas
+pub mod PackLemmas
 pub mod HoldWork
 pub mod WorkTaken
 pub mod WorkHeard

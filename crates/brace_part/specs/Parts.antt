@@ -7,6 +7,7 @@ use Rattle.brace_model.specs.FaultOrder.{least}
 use Rattle.brace_model.specs.declared.world.Agent.{Agent}
 use Rattle.brace_core.specs.declared.name.Turn.{Turn}
 use Rattle.brace_core.specs.declared.name.Turn.TheVariants.{Work}
+use Rattle.brace_core.specs.Exchanges.{due}
 use Rattle.brace_cuts.specs.declared.space.Cuts.{Cuts}
 use Rattle.brace_pieces.specs.declared.setting.Setting.{Setting}
 use Rattle.brace_pieces.specs.declared.setting.Stage.{Stage}
@@ -18,12 +19,12 @@ use Rattle.brace_pieces.specs.declared.piece.Piece.{Piece}
 use Rattle.brace_pieces.specs.declared.piece.Piece.TheVariants.{Halt}
 use Rattle.brace_pieces.specs.declared.piece.Shown.{Shown}
 use Rattle.brace_pieces.specs.Settings.{cuts_of, cuts_shown, is_end, shown_from, shown_ticks}
-use Rattle.brace_pieces.specs.Steps.{steps}
+use Rattle.brace_pieces.specs.Steps.{schedule, steps}
 use Rattle.brace_pieces.specs.Continued.{on, birth_faults}
 use Rattle.brace_pieces.specs.Owned.{owned}
 use Rattle.brace_pieces.specs.Finds.{queries_found, updates_found}
 use Rattle.brace_pieces.specs.Right.{IsRightCause}
-use Rattle.brace_pieces.specs.Courses.{OnCourse, step_of, turn_of}
+use Rattle.brace_pieces.specs.Courses.{OnCourse, past_of, step_of, turn_of}
 use Rattle.brace_part.specs.declared.counts.Counts.{Counts}
 
 -- a part: where it stands in the schedule of its setting, the agents that it owns there, what it
@@ -34,6 +35,10 @@ pub record OnPart : Type 0 where
   pub shown : List Shown
   pub cause : Option Cause
   pub counts : Counts
+
+-- the turn that its schedule has for one on a course next
+abbrev pub due_on : OnCourse → Turn
+due_on c = due schedule c.setting c.actor (past_of c)
 
 -- the tick whose query is evaluated in the work of a step, if one is
 abbrev pub tick_asked : Stage → ℕ → Option ℕ

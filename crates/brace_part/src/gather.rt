@@ -1,17 +1,14 @@
 ghost use Rattle.std.specs.Prelude.{◌≡◌, ◌++◌, [], flat_map, IfOk, IfSome, IfNone, OnOk};
 ghost use Rattle.std.specs.List.Sorted.{IsPermutation};
 ghost use Rattle.std.specs.Vec.{vec_capacity};
-ghost use Rattle.brace_model.specs.World.{RisesById};
 ghost use Rattle.brace_cuts.specs.Space.{LawfulCuts};
-ghost use Rattle.brace_fold.specs.Rows.{by_id};
 ghost use Rattle.brace_pieces.specs.Owned.{owned};
-ghost use Rattle.brace_pieces.specs.Together.{IsSorted};
 ghost use Rattle.brace_part.specs.inner.Pieces.{brought};
 
 use brace_cuts::Cuts;
-use brace_model::{Agent, Program, rises};
+use brace_model::{Agent, Program};
 use brace_num::{List, NoMemory};
-use brace_pieces::{Piece, owns, sorted};
+use brace_pieces::{Piece, owns};
 
 /// The agents that a piece brings, if it brings some.
 fn list_in(piece: Piece) -> Option<List<Agent>>
@@ -42,18 +39,6 @@ pub fn gathered(mut agents: Vec<Agent>, pieces: &mut Vec<Piece>) -> Result<Vec<A
         }
     }
     Ok(agents)
-}
-
-/// Agents by rising id; `NoMemory` where two have one id.
-pub fn by_rising_id(agents: Vec<Agent>) -> Result<Vec<Agent>, NoMemory>
-    ensures { IfOk result (λ all. all.items ≡ by_id agents.items) }
-{
-    let all = sorted(agents)?;
-    if rises(all.as_slice()) {
-        Ok(all)
-    } else {
-        Err(NoMemory)
-    }
 }
 
 /// Those of some agents that a part owns under some cuts.

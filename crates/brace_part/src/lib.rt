@@ -11,6 +11,7 @@ mod holding;
 mod joining;
 pub mod laws;
 mod near;
+mod packing;
 mod part;
 mod places;
 mod prepare;

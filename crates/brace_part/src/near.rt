@@ -195,11 +195,11 @@ fn rows_near(
     Ok(near)
 }
 
-/// The id of a row; 0 where there is no such row.
-fn id_at(ids: &[u64], row: u32) -> u64
-    ensures { result ≡ slice_index_or ids.now row 0 }
+/// What a column has in a row; another item where it has no such row.
+pub fn item_or<T: Copy>(column: &[T], row: u32, other: T) -> T
+    ensures { result ≡ slice_index_or column.now row other }
 {
-    ids.get(row as usize).copied().unwrap_or(0)
+    column.get(row as usize).copied().unwrap_or(other)
 }
 
 /// Rows by rising id.
@@ -208,7 +208,7 @@ pub fn rows_by_id(ids: &[u64], mut rows: Vec<u32>) -> Result<Vec<u32>, Redo>
     ensures in_order { IfOk result (λ sorted.
         IsNonDecreasingBy (λ row. slice_index_or ids.now row 0) sorted.items) }
 {
-    rows.sort_by_key(|row| id_at(ids, *row))?;
+    rows.sort_by_key(|row| item_or(ids, *row, 0))?;
     Ok(rows)
 }
 

@@ -3,7 +3,7 @@ ghost use Rattle.std.specs.List.{list_all};
 ghost use Rattle.std.specs.Vec.{vec_capacity};
 ghost use Rattle.brace_core.specs.declared.name.Name.{Name};
 ghost use Rattle.brace_core.specs.declared.name.Turn.TheVariants as turn;
-ghost use Rattle.brace_core.specs.Exchanges.{due, IsPut, IsTake};
+ghost use Rattle.brace_core.specs.Exchanges.{IsPut, IsTake};
 ghost use Rattle.brace_fold.specs.Listed.{AreListed};
 ghost use Rattle.brace_model.specs.FaultOrder.{least};
 ghost use Rattle.brace_model.specs.Lawful.{is_lawful_agent};
@@ -13,24 +13,23 @@ ghost use Rattle.brace_pieces.specs.declared.piece.Cause.{Cause};
 ghost use Rattle.brace_pieces.specs.declared.piece.Cause.TheVariants as cause;
 ghost use Rattle.brace_pieces.specs.declared.piece.Piece.TheVariants as piece;
 ghost use Rattle.brace_pieces.specs.Settings.{LawfulSetting, parts, is_end, cuts_of};
-ghost use Rattle.brace_pieces.specs.Steps.{schedule};
 ghost use Rattle.brace_pieces.specs.Right.{IsRight, IsRightCause};
 ghost use Rattle.brace_pieces.specs.Courses.{OnCourse, IsCourse, at_start, step_of, gone_on, past_of};
-ghost use Rattle.brace_part.specs.Parts.{own_under, own_at, IsSettled, keeps_at, found_in_work, IsCauseOf, IsCauseOfAll, cause_of, cause_behind, asks_next, brings_at, StillShows};
+ghost use Rattle.brace_part.specs.Parts.{due_on, own_under, own_at, IsSettled, keeps_at, found_in_work, IsCauseOf, IsCauseOfAll, cause_of, cause_behind, asks_next, brings_at, StillShows};
 ghost use Rattle.brace_part.specs.Given.{counts_up_to};
 ghost use Rattle.brace_part.specs.inner.Ready.{AreKept, next_behind};
 ghost use Rattle.brace_part.specs.inner.Sound.{IsPartOf, IsAtWork, ComesTo, GoesOn, owns_in};
 
 use crate::counts::Counts;
-use crate::gather::by_rising_id;
-use crate::near::{all_agents, listed};
+use crate::near::listed;
+use crate::packing::packed;
 use crate::prepare::{prepared, prepared_show};
 use crate::query::Queries;
 use crate::standing::{Stance, Standing};
 use crate::work::Worker;
 use brace_core::{Actor, Turn};
 use brace_fold::{Moved, Redo};
-use brace_model::{Agent, Program};
+use brace_model::{Agent, Herd, Program};
 use brace_num::{List, NoMemory};
 use brace_pieces::{Cause, Course, Piece, Setting, Shown, Stage, Step};
 use std::alloc::Global;
@@ -95,12 +94,8 @@ fn note(
     ensures kept { IfErr result (λ _. shown.new ≡ shown.old) }
 {
     if setting.is_end(tick) || tick.is_multiple_of(setting.job.every) {
-        let agents = owned_in(alloc, &setting.job.program, stance)?;
-        shown.push(Shown {
-            tick,
-            agents: List::from_vec(agents),
-            next,
-        })?;
+        let agents = herd_in(alloc, &setting.job.program, stance)?;
+        shown.push(Shown { tick, agents, next })?;
     }
     Ok(())
 }
@@ -143,15 +138,12 @@ fn next_behind(at: Step, stance: &Stance, old: u64) -> u64
 }
 
 /// The agents that a part owns, by rising id; none between the query of a tick and the move.
-fn owned_in(alloc: Global, program: &Program, stance: &Stance) -> Result<Vec<Agent>, NoMemory>
-    ensures { IfOk result (λ own. own.items ≡ owns_in program.now stance.now) }
+fn herd_in(alloc: Global, program: &Program, stance: &Stance) -> Result<Herd, NoMemory>
+    ensures { IfOk result (λ herd. herd ≡ owns_in program.now stance.now) }
 {
     match stance {
-        Stance::Owns(own) => {
-            let agents = all_agents(alloc, program, own)?;
-            by_rising_id(agents)
-        }
-        Stance::Hears(_, _) | Stance::Holds(_) | Stance::Leaves(_, _, _) => Ok(Vec::new(alloc)),
+        Stance::Owns(own) => packed(alloc, program, own),
+        Stance::Hears(_, _) | Stance::Holds(_) | Stance::Leaves(_, _, _) => Ok(Herd::new(alloc)),
     }
 }
 
@@ -320,8 +312,8 @@ impl<'a> Part<'a> {
             (step_of self.now.course) }
     {
         let program = &self.course.setting().job.program;
-        let own = owned_in(alloc, program, &self.standing.stance)?;
-        Ok(List::from_vec(own))
+        let own = herd_in(alloc, program, &self.standing.stance)?;
+        Ok(List::from_vec(own.agents()?))
     }
 
     /// How much it gave to others so far, that of its step included. Where it goes on, that is what
@@ -392,10 +384,8 @@ impl<'a> Actor<Piece> for Part<'a> {
     }
 
     fn piece(&mut self) -> Piece
-        requires turn { IsPut (due schedule self.old.course.setting self.old.course.actor
-            (past_of self.old.course)) }
-        ensures right { (name : Name) → due schedule self.old.course.setting
-            self.old.course.actor (past_of self.old.course) ≡ turn.Put name
+        requires turn { IsPut (due_on self.old.course) }
+        ensures right { (name : Name) → due_on self.old.course ≡ turn.Put name
             → IsRight self.old.course.setting name result }
         ensures goes_on { past_of self.new.course ≡ past_of self.old.course + 1 }
         ensures same_setting { self.new.course.setting ≡ self.old.course.setting }
@@ -419,10 +409,8 @@ impl<'a> Actor<Piece> for Part<'a> {
     }
 
     fn give(&mut self, piece: Piece)
-        requires turn { IsTake (due schedule self.old.course.setting self.old.course.actor
-            (past_of self.old.course)) }
-        requires right { (name : Name) → due schedule self.old.course.setting
-            self.old.course.actor (past_of self.old.course) ≡ turn.Take name
+        requires turn { IsTake (due_on self.old.course) }
+        requires right { (name : Name) → due_on self.old.course ≡ turn.Take name
             → IsRight self.old.course.setting name piece }
         ensures course { self.new.course ≡ gone_on self.old.course }
         ensures owns { self.new.owns ≡ self.old.owns }
@@ -445,8 +433,7 @@ impl<'a> Actor<Piece> for Part<'a> {
     }
 
     fn work(&mut self)
-        requires turn { due schedule self.old.course.setting self.old.course.actor
-            (past_of self.old.course) ≡ turn.Work }
+        requires turn { due_on self.old.course ≡ turn.Work }
         ensures goes_on { past_of self.new.course ≡ past_of self.old.course + 1 }
         ensures same_setting { self.new.course.setting ≡ self.old.course.setting }
         ensures same_number { self.new.course.actor ≡ self.old.course.actor }

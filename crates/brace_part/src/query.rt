@@ -66,7 +66,7 @@ impl Queries {
         requires { CanHear setting.now self.now tick places.now held.now }
         ensures { IfOk result (HearsOver setting.now tick places.now held.now) }
     {
-        if let Ok(heard) = self.heard_in_lanes(alloc, setting, tick, places, held) {
+        if let Ok(heard) = heard_in_lanes(alloc, self, setting, tick, places, held) {
             return Ok(heard);
         }
         let job = &setting.job;
@@ -86,30 +86,30 @@ impl Queries {
         }
         Ok(hearing.heard)
     }
+}
 
-    /// What the queries of a part say, asked in lanes; `Redo` where they are to be asked in turn.
-    fn heard_in_lanes(
-        &self,
-        alloc: Global,
-        setting: &Setting,
-        tick: u64,
-        places: &[u32],
-        held: &[Agent],
-    ) -> Result<Heard, Redo>
-        requires { CanHear setting.now self.now tick places.now held.now }
-        ensures { IfOk result (HearsOver setting.now tick places.now held.now) }
-    {
-        let program = &setting.job.program;
-        let seed = setting.job.seed;
-        let mut heard = Heard::nothing(alloc, program, held)?;
-        match self {
-            Queries::Script(plans) => fold(alloc, plans, seed, tick, held, places, &mut heard)?,
-            Queries::Inverted(forward, inverse) => {
-                let all = all_places(alloc, held)?;
-                fold(alloc, forward, seed, tick, held, places, &mut heard)?;
-                fold(alloc, inverse, seed, tick, held, &all, &mut heard)?;
-            }
+/// What the queries of a part say, asked in lanes; `Redo` where they are to be asked in turn.
+fn heard_in_lanes(
+    alloc: Global,
+    queries: &Queries,
+    setting: &Setting,
+    tick: u64,
+    places: &[u32],
+    held: &[Agent],
+) -> Result<Heard, Redo>
+    requires { CanHear setting.now queries.now tick places.now held.now }
+    ensures { IfOk result (HearsOver setting.now tick places.now held.now) }
+{
+    let program = &setting.job.program;
+    let seed = setting.job.seed;
+    let mut heard = Heard::nothing(alloc, program, held)?;
+    match queries {
+        Queries::Script(plans) => fold(alloc, plans, seed, tick, held, places, &mut heard)?,
+        Queries::Inverted(forward, inverse) => {
+            let all = all_places(alloc, held)?;
+            fold(alloc, forward, seed, tick, held, places, &mut heard)?;
+            fold(alloc, inverse, seed, tick, held, &all, &mut heard)?;
         }
-        Ok(heard)
     }
+    Ok(heard)
 }

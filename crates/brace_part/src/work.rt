@@ -355,9 +355,9 @@ impl<'a> Worker<'a> {
     fn arrived(
         &self,
         tick: u64,
-        left: Moved,
         born: Vec<Agent>,
         taken: &mut Vec<Piece>,
+        left: Moved,
     ) -> Result<Moved, NoMemory>
         requires worker { IsWorker self.now }
         requires work { IsWork self.now stage.Move tick taken.old.items }
@@ -406,7 +406,7 @@ impl<'a> Worker<'a> {
                 self.behind_censuses(tick, left, born, taken)
             }
             (Stage::Move, Stance::Leaves(left, born, _)) => {
-                Ok(Stance::Owns(self.arrived(tick, left, born, taken)?))
+                Ok(Stance::Owns(self.arrived(tick, born, taken, left)?))
             }
             (_, stance) => Ok(stance),
         }

@@ -14,6 +14,6 @@ mod steps;
 
 pub use course::Course;
 pub use fronts::Fronts;
-pub use lists::{border_of, moves_of, owns, sorted};
+pub use lists::{border_of, class_at, moves_of, owned_of, owns, sorted};
 pub use piece::{Cause, Piece, Shown};
 pub use setting::{Setting, Stage, Step};

@@ -1,9 +1,11 @@
-ghost use Rattle.std.specs.Prelude.{◌≡◌, ◌<◌, pos, ◌-ℤ◌, filter, IfOk};
+ghost use Rattle.std.specs.Prelude.{◌≡◌, ◌<◌, pos, ◌-ℤ◌, length, filter, option_map, slice_index_or, IfOk};
 ghost use Rattle.std.specs.Int.{int_max};
 ghost use Rattle.brace_num.specs.Areas.{outside, gap_to};
 ghost use Rattle.brace_cuts.specs.Space.{LawfulCuts};
 ghost use Rattle.brace_invert.specs.Held.{is_near};
 ghost use Rattle.brace_cuts.specs.CutPlans.{IsPlan};
+ghost use Rattle.brace_model.specs.declared.world.Agent.{Agent};
+ghost use Rattle.brace_model.specs.World.{class_of};
 ghost use Rattle.brace_model.specs.Lawful.{LawfulProgram};
 ghost use Rattle.brace_pieces.specs.Settings.{range, cuts_of, parts};
 ghost use Rattle.brace_pieces.specs.Owned.{owns, owned, held};
@@ -12,7 +14,7 @@ ghost use Rattle.brace_pieces.specs.Together.{IsSorted};
 use crate::Setting;
 use brace_cuts::Cuts;
 use brace_invert::range;
-use brace_model::{Agent, Area, Program, class_of, rises, x_of, y_of};
+use brace_model::{Agent, Area, Class, Herd, Program, class_of, rises, x_of, y_of};
 use brace_num::{List, NoMemory};
 use std::alloc::Global;
 
@@ -120,6 +122,54 @@ pub fn moves_of(
     for a in agents {
         if owns(&setting.job.program, cuts, to, a) {
             found.push(a.copy(alloc)?)?;
+        }
+    }
+    Ok(found)
+}
+
+/// The class of the agent at a place of a herd, or None where the program has no class of its
+/// number. It takes no memory.
+pub fn class_at<'a>(program: &'a Program, agents: &Herd, place: usize) -> Option<&'a Class>
+    requires { place < length agents.now }
+    ensures { (d : Agent) → option_map (λ c. c.now) result
+        ≡ class_of program.now (slice_index_or agents.now place d) }
+{
+    program.classes.as_slice().get(agents.class(place) as usize)
+}
+
+/// Whether a part owns the agent at a place of a herd under some cuts.
+fn owns_at(program: &Program, cuts: &Cuts, p: u32, agents: &Herd, place: usize) -> bool
+    requires cuts { LawfulCuts cuts.now }
+    requires place { place < length agents.now }
+    ensures { (d : Agent) → result
+        ≡ owns program.now cuts.now p (slice_index_or agents.now place d) }
+{
+    match class_at(program, agents, place) {
+        None => false,
+        Some(class) => {
+            cuts.owner(agents.number(place, class.x), agents.number(place, class.y)) == p
+        }
+    }
+}
+
+/// Of the agents of a herd those that belong to a part under the cuts that hold from a tick on, by
+/// rising id where theirs rise. No other agent is unpacked.
+pub fn owned_of(
+    alloc: Global,
+    setting: &Setting,
+    tick: u64,
+    agents: &Herd,
+    to: u32,
+) -> Result<List<Agent>, NoMemory>
+    requires { IsPlan setting.now.epoch setting.now.cuts }
+    ensures theirs { IfOk result (λ found. found
+        ≡ owned setting.now.job.program (cuts_of setting.now tick) to agents.now) }
+{
+    let cuts = setting.cuts.cuts_at(tick);
+    let mut found = List::new(alloc);
+    for place in 0..agents.len() {
+        if owns_at(&setting.job.program, cuts, to, agents, place) {
+            found.push(agents.agent(place, agents.no_values())?)?;
         }
     }
     Ok(found)

@@ -1,22 +1,28 @@
 //! That all numbers of a setting have 64 bits. The functions walk over it and answer nothing: their
 //! clauses are what they are for.
-ghost use Rattle.std.specs.Prelude.{IsTrue};
+ghost use Rattle.std.specs.Prelude.{◌<◌, IsTrue, length, slice_index_or};
 ghost use Rattle.std.specs.List.{list_all};
 ghost use Rattle.brace_num.specs.Exact.{fits};
+ghost use Rattle.brace_model.specs.declared.world.Agent.{Agent};
 ghost use Rattle.brace_model.specs.World.{number};
 ghost use Rattle.brace_pieces.specs.Numbers.{expression_fits, rule_fits, gifts_fit, class_fits, agent_fits, NumbersFit};
 
 use crate::Setting;
-use brace_model::{Agent, Class, Expr, Gift, Spawn, State, Value};
+use brace_model::{Class, Expr, Gift, Herd, Spawn, State, Value};
+
+/// A number.
+fn number_fits(n: i64)
+    ensures { IsTrue (fits n) }
+{
+    let _n = n;
+}
 
 /// The number of a value.
 fn value_fits(value: &Value)
     ensures { IsTrue (fits (number value.now)) }
 {
     match value {
-        Value::Int(n) | Value::Fixed(n) => {
-            let _n = *n;
-        }
+        Value::Int(n) | Value::Fixed(n) => number_fits(*n),
         Value::Flag(_) => {}
     }
 }
@@ -96,21 +102,22 @@ fn classes_fit(classes: &[Class])
     }
 }
 
-/// The values of an agent.
-fn agent_fits(agent: &Agent)
-    ensures { IsTrue (agent_fits agent.now) }
+/// The values of the agent at a place.
+fn agent_fits(agents: &Herd, place: usize)
+    requires { place < length agents.now }
+    ensures { (d : Agent) → IsTrue (agent_fits (slice_index_or agents.now place d)) }
 {
-    for value in agent.states.as_slice() {
-        value_fits(value);
+    for state in 0..agents.states(place) {
+        number_fits(agents.number_at(place, state));
     }
 }
 
 /// The values of some agents.
-fn agents_fit(agents: &[Agent])
+fn agents_fit(agents: &Herd)
     ensures { IsTrue (list_all agent_fits agents.now) }
 {
-    for agent in agents {
-        agent_fits(agent);
+    for place in 0..agents.len() {
+        agent_fits(agents, place);
     }
 }
 

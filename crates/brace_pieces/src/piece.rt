@@ -3,7 +3,7 @@ ghost use Rattle.std.specs.Prelude.{◌≡◌};
 use crate::Setting;
 use brace_comb::Entry;
 use brace_core::Freight;
-use brace_model::{Agent, Census, Fault};
+use brace_model::{Agent, Census, Fault, Herd};
 use brace_num::{List, NoMemory};
 
 /// The agents of a part in the world of a tick.
@@ -11,7 +11,7 @@ use brace_num::{List, NoMemory};
 pub struct Shown {
     pub tick: u64,
     /// By rising id.
-    pub agents: List<Agent>,
+    pub agents: Herd,
     /// The next free id of that world.
     pub next: u64,
 }

@@ -184,6 +184,13 @@ module _ (watch : Watch) (agents : List Agent) where
       by_test true v value = tally_more watch.kind before (Int f) v n k value so_far
       by_test false v value = so_far ∙ ap (tally_of watch.kind) (sym (append-nil before))
 
+-- what is read at a place, whatever stood where there is nothing
+pub read_alike : {X : Type 0} (xs : List X) (i : ℕ) (d e : X) → i < length xs
+    → get_or xs i d ≡ get_or xs i e
+read_alike [] i d e low = absurd (omega (arith, low))
+read_alike (x ∷ xs) zero d e low = refl
+read_alike (x ∷ xs) (suc i) d e low = read_alike xs i d e (omega (arith, low))
+
 -- a column that was kept
 pub column_kept : (before after : List Column) (i : ℕ) (d : Column) → i < length before
     → take (length before) after ≡ before → get_or after i d ≡ get_or before i d

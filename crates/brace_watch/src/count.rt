@@ -1,4 +1,4 @@
-//! The figures of a list of agents.
+//! The figures of agents.
 ghost use Rattle.std.specs.Prelude.{◌≡◌, List, map, length, IfOk, IfSome, OnOk};
 ghost use Rattle.brace_model.specs.declared.program.Value.{Value};
 ghost use Rattle.brace_model.specs.declared.world.Agent.{Agent};
@@ -13,7 +13,7 @@ use crate::rows::{Rows, parted};
 use crate::{Figures, Watch};
 use brace_comb::{Combine, Total, identity, joined, merged};
 use brace_cuts::Cuts;
-use brace_model::{Agent, BinOp, Comb, Program, Value, number};
+use brace_model::{BinOp, Comb, Herd, Program, Value, number};
 use brace_num::NoMemory;
 use std::alloc::Global;
 
@@ -26,7 +26,7 @@ pub fn figures(
     program: &Program,
     watch: &Watch,
     cuts: &Cuts,
-    agents: &[Agent],
+    agents: &Herd,
 ) -> Result<Figures, NoMemory>
     requires watch { IsWatch program.now watch.now }
     requires cuts { LawfulCuts cuts.now }

@@ -6,6 +6,7 @@ mod count;
 mod file;
 mod kinds;
 mod line;
+mod member;
 mod name;
 mod print;
 mod rows;

@@ -1,5 +1,5 @@
 //! The lines that tell figures.
-ghost use Rattle.std.specs.Prelude.{◌≡◌, ◌++◌, ◌∷◌, ◌&&◌, ◌==◌, length, map, flat_map, take, OnOk, OnErr};
+ghost use Rattle.std.specs.Prelude.{◌≡◌, ◌++◌, ◌∷◌, ◌&&◌, ◌==◌, map, flat_map, OnOk, OnErr};
 ghost use Rattle.std.specs.List.{All};
 ghost use Rattle.brace_num.specs.Spelling.{canonical_int};
 ghost use Rattle.brace_cuts.specs.Space.{LawfulCuts};
@@ -13,7 +13,7 @@ use crate::rows::parted;
 use crate::{Figures, Watch};
 use brace_comb::{Combine, Total};
 use brace_cuts::Cuts;
-use brace_model::{Agent, Program, Ty};
+use brace_model::{Herd, Program, Ty};
 use brace_num::{NoMemory, print_count, print_wide_fixed};
 use itoa::Buffer;
 use std::alloc::Global;
@@ -30,7 +30,7 @@ pub fn print_watched(
     watches: &[Watch],
     cuts: &Cuts,
     tick: u64,
-    agents: &[Agent],
+    agents: &Herd,
 ) -> Result<(), NoMemory>
     requires watches { All (IsWatch program.now) watches.now }
     requires cuts { LawfulCuts cuts.now }
@@ -38,36 +38,19 @@ pub fn print_watched(
         ++ watched_text program.now watches.now cuts.now tick agents.now) }
     ensures kept { OnErr result (out.new.items ≡ out.old.items) }
 {
-    let before = out.len();
-    let printed = append_watched(alloc, out, program, watches, cuts, tick, agents);
-    if printed.is_err() {
-        out.truncate(before);
-    }
-    printed
-}
-
-// A refused append may leave a part of the lines behind `out`.
-#[tactic(auto, using(brace_num::proofs::Printings::starts_more, brace_rows::proofs::Texts::starts_here))]
-fn append_watched(
-    alloc: Global,
-    out: &mut Vec<u8>,
-    program: &Program,
-    watches: &[Watch],
-    cuts: &Cuts,
-    tick: u64,
-    agents: &[Agent],
-) -> Result<(), NoMemory>
-    requires watches { All (IsWatch program.now) watches.now }
-    requires cuts { LawfulCuts cuts.now }
-    ensures printed { OnOk result (out.new.items ≡ out.old.items
-        ++ watched_text program.now watches.now cuts.now tick agents.now) }
-    ensures only_appends { take (length out.old.items) out.new.items ≡ out.old.items }
-{
     let mut boxes = parted(alloc, program, cuts, agents)?;
+    let mut lines = Vec::new(alloc);
     for (place, watch) in watches.iter().enumerate() {
         let found = figures_of(alloc, watch, &mut boxes)?;
-        append_line(out, type_of(program, watch), tick, place as u64 + 1, &found)?;
+        append_line(
+            &mut lines,
+            type_of(program, watch),
+            tick,
+            place as u64 + 1,
+            &found,
+        )?;
     }
+    out.extend_from_slice(&lines)?;
     Ok(())
 }
 
@@ -81,7 +64,6 @@ fn type_of(program: &Program, watch: &Watch) -> Ty
     }
 }
 
-#[tactic(auto, using(brace_num::proofs::Printings::starts_more, brace_rows::proofs::Texts::starts_here))]
 fn append_line(
     out: &mut Vec<u8>,
     ty: Ty,
@@ -91,7 +73,6 @@ fn append_line(
 ) -> Result<(), NoMemory>
     ensures printed { OnOk result (out.new.items ≡ out.old.items
         ++ line_text ty tick number (tally found.now.whole) (map tally found.now.boxes.items)) }
-    ensures only_appends { take (length out.old.items) out.new.items ≡ out.old.items }
 {
     print_count(out, tick)?;
     out.extend_from_slice(b",")?;
@@ -102,11 +83,9 @@ fn append_line(
     Ok(())
 }
 
-#[tactic(auto, using(brace_num::proofs::Printings::starts_more, brace_rows::proofs::Texts::starts_here))]
 fn append_figures(out: &mut Vec<u8>, ty: Ty, totals: &[Total]) -> Result<(), NoMemory>
     ensures printed { OnOk result (out.new.items
         ≡ out.old.items ++ flat_map (λ f. 44 ∷ figure_text ty f) (map tally totals.now)) }
-    ensures only_appends { take (length out.old.items) out.new.items ≡ out.old.items }
 {
     for total in totals {
         append_figure(out, ty, total)?;
@@ -115,11 +94,9 @@ fn append_figures(out: &mut Vec<u8>, ty: Ty, totals: &[Total]) -> Result<(), NoM
 }
 
 // A comma and a figure.
-#[tactic(auto, using(brace_num::proofs::Printings::starts_more, brace_rows::proofs::Texts::starts_here))]
 fn append_figure(out: &mut Vec<u8>, ty: Ty, total: &Total) -> Result<(), NoMemory>
     ensures printed { OnOk result (out.new.items
         ≡ out.old.items ++ 44 ∷ figure_text ty (tally total.now)) }
-    ensures only_appends { take (length out.old.items) out.new.items ≡ out.old.items }
 {
     out.extend_from_slice(b",")?;
     if is_of_none(total) {
@@ -140,10 +117,8 @@ fn is_of_none(total: &Total) -> bool
     }
 }
 
-#[tactic(auto, using(brace_rows::proofs::Texts::starts_here))]
 fn append_number(out: &mut Vec<u8>, ty: Ty, n: i128) -> Result<(), NoMemory>
     ensures printed { OnOk result (out.new.items ≡ out.old.items ++ number_text ty n) }
-    ensures only_appends { take (length out.old.items) out.new.items ≡ out.old.items }
 {
     match ty {
         Ty::Fixed => print_wide_fixed(out, n),
@@ -153,7 +128,6 @@ fn append_number(out: &mut Vec<u8>, ty: Ty, n: i128) -> Result<(), NoMemory>
 
 fn append_int(out: &mut Vec<u8>, n: i128) -> Result<(), NoMemory>
     ensures printed { OnOk result (out.new.items ≡ out.old.items ++ canonical_int n) }
-    ensures only_appends { take (length out.old.items) out.new.items ≡ out.old.items }
 {
     out.extend_from_slice(Buffer::new().format(n).as_bytes())?;
     Ok(())

@@ -1,5 +1,5 @@
 //! The agents of boxes, and their numbers, state by state.
-ghost use Rattle.std.specs.Prelude.{◌≡◌, ◌<◌, ◌∷◌, [], ◌++◌, map, length, replicate, take, slice_index_or, IfOk, OnOk};
+ghost use Rattle.std.specs.Prelude.{◌≡◌, ◌<◌, ◌∷◌, [], ◌++◌, length, replicate, take, slice_index_or, IfOk, OnOk};
 ghost use Rattle.std.specs.List.{All};
 ghost use Rattle.brace_cuts.specs.Space.{LawfulCuts};
 ghost use Rattle.brace_comb.specs.Totals.{tally};
@@ -9,9 +9,10 @@ ghost use Rattle.brace_watch.specs.inner.Columns.{all_owned, number_for, numbers
 
 use crate::Watch;
 use crate::count::total_of;
+use crate::member::Member;
 use brace_comb::Total;
 use brace_cuts::Cuts;
-use brace_model::{Agent, Program, Value, class_of, number, value_at, x_of, y_of};
+use brace_model::{Herd, Program};
 use brace_num::NoMemory;
 use std::alloc::Global;
 use std::marker::Model;
@@ -20,7 +21,7 @@ use std::marker::Model;
 /// their order.
 #[derive(Drop)]
 pub(crate) struct Rows<'a> {
-    agents: Vec<&'a Agent>,
+    agents: Vec<Member<'a>>,
     columns: Vec<Column>,
 }
 
@@ -33,17 +34,16 @@ struct Column {
 }
 
 impl<'a> Model for Rows<'a> {
-    ghost use Rattle.std.specs.Prelude.{List, map};
+    ghost use Rattle.std.specs.Prelude.{List};
     ghost use Rattle.std.specs.List.{All};
     ghost use Rattle.brace_model.specs.declared.world.Agent.{Agent};
     ghost use Rattle.brace_watch.specs.inner.Columns.{IsColumn};
 
     ghost Value = { List Agent };
 
-    ghost view = { λ rows. map (λ a. a.now) rows.agents.items };
+    ghost view = { λ rows. rows.agents.items };
 
-    ghost invariant = { λ rows.
-        All (IsColumn (map (λ a. a.now) rows.agents.items)) rows.columns.items };
+    ghost invariant = { λ rows. All (IsColumn rows.agents.items) rows.columns.items };
 }
 
 impl<'a> Rows<'a> {
@@ -57,8 +57,8 @@ impl<'a> Rows<'a> {
     }
 
     /// One more agent, for whom all columns are read anew.
-    fn add(&mut self, agent: &'a Agent) -> Result<(), NoMemory>
-        ensures { OnOk result (self.new ≡ self.old ++ agent.now ∷ []) }
+    fn add(&mut self, agent: Member<'a>) -> Result<(), NoMemory>
+        ensures { OnOk result (self.new ≡ self.old ++ agent.entry ∷ []) }
     {
         self.columns.clear();
         self.agents.push(agent)?;
@@ -92,17 +92,17 @@ fn tested(watch: &Watch) -> Option<u32>
 /// The place of the column of a class and a state, which is read where it is not there yet.
 fn read_column(
     alloc: Global,
-    agents: &[&Agent],
+    agents: &[Member],
     columns: &mut Vec<Column>,
     class: u32,
     field: Option<u32>,
 ) -> Result<usize, NoMemory>
-    requires { All (IsColumn (map (λ a. a.now) agents.now)) columns.old.items }
-    ensures all { All (IsColumn (map (λ a. a.now) agents.now)) columns.new.items }
+    requires { All (IsColumn agents.now) columns.old.items }
+    ensures all { All (IsColumn agents.now) columns.new.items }
     ensures there { IfOk result (λ place. place < length columns.new.items) }
     ensures numbers { IfOk result (λ place. (d : Column)
         → (slice_index_or columns.new.items place d).numbers.items
-        ≡ numbers_of class field (map (λ a. a.now) agents.now)) }
+        ≡ numbers_of class field agents.now) }
     ensures kept { take (length columns.old.items) columns.new.items ≡ columns.old.items }
 {
     for (place, column) in columns.iter().enumerate() {
@@ -122,28 +122,28 @@ fn read_column(
 /// The numbers that the agents of a class have in a state, or any where none is asked for.
 fn numbers_of(
     alloc: Global,
-    agents: &[&Agent],
+    agents: &[Member],
     class: u32,
     field: Option<u32>,
 ) -> Result<Vec<i64>, NoMemory>
     ensures { IfOk result (λ numbers. numbers.items
-        ≡ numbers_of class field (map (λ a. a.now) agents.now)) }
+        ≡ numbers_of class field agents.now) }
 {
     let mut numbers = Vec::with_capacity(alloc, agents.len())?;
     for agent in agents {
-        if agent.class == class {
+        if agent.class() == class {
             numbers.push(number_for(field, agent))?;
         }
     }
     Ok(numbers)
 }
 
-fn number_for(field: Option<u32>, agent: &Agent) -> i64
+fn number_for(field: Option<u32>, agent: &Member) -> i64
     ensures { result ≡ number_for field agent.now }
 {
     match field {
         None => 1,
-        Some(place) => number(value_at(agent.states.as_slice(), place)),
+        Some(state) => agent.number(state),
     }
 }
 
@@ -152,15 +152,16 @@ pub(crate) fn parted<'a>(
     alloc: Global,
     program: &Program,
     cuts: &Cuts,
-    agents: &'a [Agent],
+    agents: &'a Herd,
 ) -> Result<Vec<Rows<'a>>, NoMemory>
     requires { LawfulCuts cuts.now }
     ensures { IfOk result (λ boxes. boxes.items ≡ all_owned program.now cuts.now agents.now) }
 {
     let mut boxes = none_parted(alloc, cuts.parts())?;
-    for agent in agents {
-        if let Some(class) = class_of(program, agent) {
-            let owner = cuts.owner(x_of(class, agent), y_of(class, agent));
+    for place in 0..agents.len() {
+        let agent = Member::of(agents, place);
+        if let Some(class) = agent.class_in(program) {
+            let owner = cuts.owner(agent.number(class.x), agent.number(class.y));
             let rows = &mut boxes[owner as usize];
             rows.add(agent)?;
         }

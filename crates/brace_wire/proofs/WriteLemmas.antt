@@ -55,6 +55,12 @@ module _ (types : List (List Ty)) where
   pub frame_is : (f : Frame) → BodyFits AgentFits f → length (body f) < 2 ^ 32 → IsOf types f.piece → IsFrame types f
   frame_is f fits short of = record { from = fits.from; to = fits.to; ordinal = fits.ordinal; piece = piece_is f.piece fits.piece of; short = short }
 
+-- one more agent that fits
+pub fits_more : (agents : List Agent) (a : Agent) → AllByRecursion AgentFits agents → AgentFits a
+    → AllByRecursion AgentFits (agents ++ a ∷ [])
+fits_more [] a all fits = (fits, tt)
+fits_more (b ∷ agents) a all fits = (all.0, fits_more agents a all.1 fits)
+
 -- what an answer says where it is Ok, and what follows
 pub on_ok : {X E : Type 0} (r : Result X E) (P Q : Type 0) → OnOk r P → (P → Q) → OnOk r Q
 on_ok (Ok x) P Q h f = f h

@@ -8,7 +8,7 @@ use crate::numbers::{
     read_sixteen,
 };
 use brace_comb::{Entry, Total};
-use brace_model::{Agent, Census, Fault, Parent, Ty, Value};
+use brace_model::{Agent, Census, Fault, Herd, Parent, Ty, Value};
 use brace_num::List;
 use brace_pieces::{Cause, Shown};
 use std::alloc::Global;
@@ -250,6 +250,7 @@ fn read_shown<'a>(
     let (tick, rest) = read_eight(bytes)?;
     let (next, rest) = read_eight(rest)?;
     let (agents, rest) = read_agents(alloc, types, rest)?;
+    let agents = Herd::of(alloc, agents.as_slice())?;
     Ok((Shown { tick, agents, next }, rest))
 }
 

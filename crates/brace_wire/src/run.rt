@@ -1,6 +1,6 @@
 ghost use Rattle.std.specs.Prelude.{◌≡◌, ◌<◌, ◌≤◌, ℕ, All, map, length, IfSome, IfNone, OnOk};
 ghost use Rattle.std.specs.List.{range_with_len};
-ghost use Rattle.brace_core.specs.Exchanges.{AreAllOf, due_to};
+ghost use Rattle.brace_core.specs.Exchanges.{AreAllOf};
 ghost use Rattle.brace_core.specs.Schedule.{front};
 ghost use Rattle.brace_core.specs.inner.Turns.{IsFirst, NoneFrom};
 ghost use Rattle.brace_pieces.specs.Steps.{schedule};
@@ -13,13 +13,11 @@ use brace_core::{Actor, Turn, make_turn};
 use brace_num::{Generator, NoMemory};
 use brace_pieces::Piece;
 
-/// Whether an actor's next turn in the first steps, so many, can be made: a take where its piece
-/// was received.
-fn is_free<A: Actor<Piece>>(actor: &A, lanes: &WireLanes, end: u64) -> bool
-    ensures { result ≡ can_make lanes.now
-        (due_to schedule (A.setting actor.now) end (A.number actor.now) (A.past actor.now)) }
+/// Whether a turn can be made: a take where its piece was received.
+fn is_free(turn: Turn, lanes: &WireLanes) -> bool
+    ensures { result ≡ can_make lanes.now turn }
 {
-    match actor.next(end) {
+    match turn {
         Turn::Put(_) | Turn::Work => true,
         Turn::Take(name) => lanes.holds(name),
         Turn::Done => false,
@@ -36,6 +34,7 @@ fn first_that_can<A: Actor<Piece>>(
 ) -> Option<usize>
     requires settings { All (λ a. A.setting a ≡ lanes.now.setting) actors.now }
     requires numbers { map A.number actors.now ≡ range_with_len 0 lanes.now.actors }
+    ensures received { (p q : ℕ) → received_on lanes.now p q ≤ puts_on lanes.now p q }
     ensures below { IfSome result (λ p. p < length actors.now) }
     ensures first { IfSome result (IsFirst
         (can_go_on (front (schedule lanes.now.setting) end) lanes.now (map A.past actors.now))
@@ -43,12 +42,11 @@ fn first_that_can<A: Actor<Piece>>(
     ensures none { IfNone result (NoneFrom
         (can_go_on (front (schedule lanes.now.setting) end) lanes.now (map A.past actors.now))
         lanes.now.actors drawn) }
-    ensures received { (p q : ℕ) → received_on lanes.now p q ≤ puts_on lanes.now p q }
 {
     let count = lanes.actors();
     for i in 0..count {
         let number = (drawn as usize + i) % count;
-        if is_free(&actors[number], lanes, end) {
+        if is_free(actors[number].next(end), lanes) {
             return Some(number);
         }
     }

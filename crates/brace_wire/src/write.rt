@@ -6,7 +6,7 @@ ghost use Rattle.brace_wire.specs.Frames.{four, eight, signed, sixteen, flag, op
 ghost use Rattle.brace_wire.specs.Fitting.{ValueFits, AgentFits, TotalFits, EntryFits, ParentFits, CensusFits, ShownFits, FaultFits, CauseFits, ListFits};
 
 use brace_comb::{Entry, Total};
-use brace_model::{Agent, Census, Fault, Parent, Phase, Value};
+use brace_model::{Agent, Census, Fault, Herd, Parent, Phase, Value};
 use brace_num::{Kind, NoMemory};
 use brace_pieces::{Cause, Shown};
 
@@ -146,6 +146,23 @@ pub(crate) fn append_agents(out: &mut Vec<u8>, agents: &[Agent]) -> Result<(), N
     Ok(())
 }
 
+/// Appends the agents of a herd, which are unpacked one at a time.
+#[tactic(auto, using(crate::proofs::Starts::starts))]
+fn append_herd(out: &mut Vec<u8>, agents: &Herd) -> Result<(), NoMemory>
+    ensures written { OnOk result (out.new.items ≡ out.old.items ++ listed agent agents.now) }
+    ensures fits { OnOk result (ListFits AgentFits agents.now) }
+    ensures only_appends { take (length out.old.items) out.new.items ≡ out.old.items }
+{
+    append_count(out, agents.len())?;
+    let mut values = agents.no_values();
+    for place in 0..agents.len() {
+        let a = agents.agent(place, values)?;
+        append_agent(out, &a)?;
+        values = a.states.into_vec();
+    }
+    Ok(())
+}
+
 #[tactic(auto, using(crate::proofs::Starts::starts), unfolding(crate::specs::Frames::total))]
 fn append_total(out: &mut Vec<u8>, t: Total) -> Result<(), NoMemory>
     ensures written { OnOk result (out.new.items ≡ out.old.items ++ total t) }
@@ -249,7 +266,7 @@ fn append_shown(out: &mut Vec<u8>, s: &Shown) -> Result<(), NoMemory>
 {
     append_eight(out, s.tick)?;
     append_eight(out, s.next)?;
-    append_agents(out, s.agents.as_slice())
+    append_herd(out, &s.agents)
 }
 
 #[tactic(auto, using(crate::proofs::Starts::starts))]

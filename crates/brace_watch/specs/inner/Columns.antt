@@ -1,5 +1,5 @@
 -- What figures are counted from: the agents of boxes, and their numbers, state by state.
-use Rattle.std.specs.Prelude.{◌≡◌, ℕ, ◌==◌, ℤ, List, map, filter, Option, option_map}
+use Rattle.std.specs.Prelude.{◌≡◌, ℕ, ◌==◌, ℤ, List, [], map, filter, Option, option_map}
 use Rattle.std.specs.List.{range_with_len}
 use Rattle.brace_model.specs.declared.program.BinOp.{BinOp}
 use Rattle.brace_model.specs.declared.program.Value.{Value}
@@ -12,6 +12,10 @@ use Rattle.brace_pieces.specs.Owned.{owned}
 use Rattle.brace_watch.specs.declared.kinds.Watch.{Watch}
 use Rattle.brace_watch.specs.declared.rows.Column.{Column}
 use Rattle.brace_watch.specs.Figures.{meets, value_for}
+
+-- what stands where there is no agent
+abbrev pub no_agent : Agent
+no_agent = record { class = 0; id = 0; states = [] }
 
 -- the agents of each box, by its number
 abbrev pub all_owned : Program → Cuts → List Agent → List (List Agent)

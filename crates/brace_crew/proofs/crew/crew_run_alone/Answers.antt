@@ -2,7 +2,7 @@ use Rattle.std.proofs.Common.{◌∙◌, refl, sym, arith, inl, inr}
 use Rattle.brace_core.proofs.Starts.{no_names}
 use Rattle.brace_pieces.specs.Steps.{schedule}
 use Rattle.brace_crew.specs.inner.Crews.{all_numbers}
-use Rattle.brace_crew.proofs.RunEnds.{begin_lent, members_back, ended_back}
+use Rattle.brace_crew.proofs.RunEnds.{begin_lent, members_back, some_back, ended_back}
 use Rattle.brace_crew.proofs.crew.crew_run_alone.Goals as goal
 
 pub run_through-requires-clause-begin : goal.run_through-requires-clause-begin
@@ -12,11 +12,9 @@ run_through-requires-clause-begin g c =
 
 pub concluded-requires-clause-members : goal.concluded-requires-clause-members
 concluded-requires-clause-members g c =
-    let ran = c.run_through.ensures in (
-      c.args.publisher,
-      members_back c.in-Ok.members.items c.deref_mut.result.now c.run_through.new.members _ _ c.deref_mut.ensures.value c.deref_mut.ensures.len ran.same_settings
-          c.args.setting.now c.args.publisher (all_numbers c.args.setting.now) c.in-Ok.ensures.members ran.same_numbers ran.same_openings,
-    )
+    let ran = c.run_through.ensures in
+    some_back c.in-Ok.members.items c.deref_mut.result.now c.run_through.new.members _ _ c.deref_mut.ensures.value c.deref_mut.ensures.len ran.same_settings
+    c.args.setting.now c.args.publisher c.in-Ok.ensures.members ran.same_numbers ran.same_openings
 
 pub concluded-requires-clause-ended : goal.concluded-requires-clause-ended
 concluded-requires-clause-ended g c =

@@ -3,10 +3,10 @@ use Rattle.brace_model.specs.World.{x_of, y_of}
 use Rattle.brace_crew.specs.Sums.{place_along, sum_of}
 use Rattle.brace_crew.proofs.sum_publisher.sums.Given as goal
 
-abbrev pub invariant-loop-agent : goal.invariant-loop-agent
-invariant-loop-agent l = record {
-  x : l.along_x ≡ sum_of (place_along x_of l.program) (take l.agent-index l.agents);
-  y : l.along_y ≡ sum_of (place_along y_of l.program) (take l.agent-index l.agents);
-  bound_x : unsigned_abs l.along_x ≤ 2 ^ 63 * l.agent-index;
-  bound_y : unsigned_abs l.along_y ≤ 2 ^ 63 * l.agent-index;
+abbrev pub invariant-loop-at : goal.invariant-loop-at
+invariant-loop-at l = record {
+  x : l.along_x ≡ sum_of (place_along x_of l.program) (take l.at l.agents);
+  y : l.along_y ≡ sum_of (place_along y_of l.program) (take l.at l.agents);
+  bound_x : unsigned_abs l.along_x ≤ 2 ^ 63 * l.at;
+  bound_y : unsigned_abs l.along_y ≤ 2 ^ 63 * l.at;
 }

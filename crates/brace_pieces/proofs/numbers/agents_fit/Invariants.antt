@@ -3,5 +3,5 @@ use Rattle.std.specs.List.{list_all}
 use Rattle.brace_pieces.specs.Numbers.{agent_fits}
 use Rattle.brace_pieces.proofs.numbers.agents_fit.Given as goal
 
-abbrev pub invariant-loop-agent : goal.invariant-loop-agent
-invariant-loop-agent l = list_all agent_fits (take l.agent-index l.agents) ≡ true
+abbrev pub invariant-loop-place : goal.invariant-loop-place
+invariant-loop-place l = list_all agent_fits (take l.place l.agents) ≡ true

@@ -1,4 +1,4 @@
-use Rattle.std.proofs.Common.{◌+◌, ◌%◌, ◌<◌, map, true, false, arith}
+use Rattle.std.proofs.Common.{◌∙◌, ◌+◌, ◌%◌, ◌<◌, map, true, false, arith}
 use Rattle.brace_core.specs.Schedule.{front}
 use Rattle.brace_core.proofs.ActorLemmas.{count, turn_is, found_first, passed_more}
 use Rattle.brace_pieces.specs.Steps.{schedule}
@@ -22,7 +22,7 @@ returns-then-is_free-clause-first g c =
     _ low c.index-actors-number.result c.index-actors-number.is in
     found_first (can_go_on (front (schedule c.args.lanes.now.setting) c.args.end) c.args.lanes.now (map g.A.Actor.past c.args.actors.now))
     c.args.lanes.now.actors c.actors-count.result c.args.drawn c.loop-i.i c.actors-count.ensures.count c.loop-i-test.true c.loop-i.invariant
-    (said_of c.args.lanes.now _ _ c.is_free.result true turn c.is_free.ensures c.if-is_free.true)
+    (said_of c.args.lanes.now _ _ c.is_free.result true (c.next.ensures ∙ turn) c.is_free.ensures c.if-is_free.true)
 
 pub loop-i-preserved : goal.loop-i-preserved
 loop-i-preserved g c =
@@ -31,4 +31,4 @@ loop-i-preserved g c =
     _ low c.index-actors-number.result c.index-actors-number.is in
     passed_more (can_go_on (front (schedule c.args.lanes.now.setting) c.args.end) c.args.lanes.now (map g.A.Actor.past c.args.actors.now))
     c.args.lanes.now.actors c.actors-count.result c.args.drawn c.loop-i.i c.actors-count.ensures.count c.loop-i-test.true c.loop-i.invariant
-    (said_of c.args.lanes.now _ _ c.is_free.result false turn c.is_free.ensures c.if-is_free.false)
+    (said_of c.args.lanes.now _ _ c.is_free.result false (c.next.ensures ∙ turn) c.is_free.ensures c.if-is_free.false)

@@ -9,7 +9,7 @@ use Rattle.brace_part.proofs.part.Part.owned.Goals as goal
 
 pub returns-clause-same : goal.returns-clause-same
 returns-clause-same c =
-    c.from_vec.ensures ∙ c.in_ok-own.ensures
+    c.from_vec.ensures ∙ c.in_ok-agents.ensures ∙ c.in_ok-own.ensures
     ∙ ap (λ (s : Setting). owns_in s.job.program c.self.inside.standing.stance)
     c.setting.ensures.setting
     ∙ ap (λ (v : OnPart). v.owns) c.self.view_is
@@ -33,4 +33,9 @@ returns-clause-owner c =
 pub returns-in_err-own-clause-owner : goal.returns-in_err-own-clause-owner
 returns-in_err-own-clause-owner c =
     let own = owns (goal.at.returns-in_err-own-clause-owner c).After-setting in
+    search (rules, own)
+
+pub returns-in_err-agents-clause-owner : goal.returns-in_err-agents-clause-owner
+returns-in_err-agents-clause-owner c =
+    let own = owns (goal.at.returns-in_err-agents-clause-owner c).After-setting in
     search (rules, own)

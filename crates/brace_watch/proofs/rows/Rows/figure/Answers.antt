@@ -10,7 +10,7 @@ pub returns-clause-figure : goal.returns-clause-figure
 returns-clause-figure c =
     let watch = c.args.watch.now in
     let mine = of_class watch.class c.args.self.now in
-    let agents = ap (map (λ a. a.now)) c.as_slice-agents.ensures.value ∙ c.self.view_is in
+    let agents = c.as_slice-agents.ensures.value ∙ c.self.view_is in
     let kept = column_kept c.read_column.new.columns.items c.read_column-2.new.columns.items
     c.in_ok-tests.tests c.index.result.now c.in_ok-tests.ensures.there
     c.in_ok-values.ensures.kept in

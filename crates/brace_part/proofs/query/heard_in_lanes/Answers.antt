@@ -7,8 +7,8 @@ use Rattle.brace_part.specs.inner.Sound.{AreQueriesOf}
 use Rattle.brace_part.specs.inner.Tables.{said_over, faults_over}
 use Rattle.brace_part.proofs.TableHeard.{over_script, over_both}
 use Rattle.brace_part.proofs.LaneLemmas.{adds_too, own_effects, effects_same}
-use Rattle.brace_part.proofs.query.Queries.heard_in_lanes.Goals as goal
-use Rattle.brace_part.proofs.query.Queries.heard_in_lanes.Goals.{in-Script+in_ok-fold-in-Script, in-Inverted+in_ok-all-in-Inverted+in_ok-fold-in-Inverted+in_ok-fold-in-Inverted-2}
+use Rattle.brace_part.proofs.query.heard_in_lanes.Goals as goal
+use Rattle.brace_part.proofs.query.heard_in_lanes.Goals.{in-Script+in_ok-fold-in-Script, in-Inverted+in_ok-all-in-Inverted+in_ok-fold-in-Inverted+in_ok-fold-in-Inverted-2}
 
 pub returns : goal.returns
 returns c =
@@ -20,7 +20,7 @@ returns c =
     let tick = c.args.tick in
     let before = c.in_ok-heard.heard in
     let nothing = c.in_ok-heard.ensures.nothing in
-    elim c.match-self.branch [
+    elim c.match-queries.branch [
       | in-Script+in_ok-fold-in-Script w ↦
           let (plain, script) = subst (AreQueriesOf s) w.in-Script.is c.requires.queries in
           let p = w.in-Script.plans in
