@@ -42,7 +42,7 @@ use Rattle.brace_top.specs.Outcome.{Outcome, Refusal, TrialProgram, ProgramOf, r
 use Rattle.brace_top.specs.Savings.{Saving, with_saved}
 use Rattle.brace_top.specs.Status.{has_run}
 use Rattle.brace_top.specs.inner.Settled.{is_work, is_plain_work, stopped_status, stopped_message, status_in, message_in, IsOf, IsRefusedAs, IsScriptRefused, IsRecordRefused, refuses_file, is_stop, GivesNothing, IsLoaded, IsUnloaded, IsStopped, IsCarriedOut, IsWritten, IsRunOf, IsServed, outcome_of}
-use Rattle.brace_top.specs.inner.Prepared.{IsStoppedBefore, IsReady, IsPrepared}
+use Rattle.brace_top.specs.inner.Prepared.{IsStoppedBefore, IsReady, CanRun, IsPrepared}
 use Rattle.brace_top.specs.inner.Words.{said_run, IsReadAs, IsUnasked, IsRunInRange}
 use Rattle.brace_top.proofs.StatusLemmas.{stop_runs, stop_usage, stop_writes, work_refusal, work_saves, work_usage, plain_works, plain_stops, plain_counts, stop_reads, plain_reads}
 
@@ -324,6 +324,27 @@ plain_serves {O = O} of_shelf of_sink asked s m o n p w r task kept is prepared 
     subst (λ (x : O). IsServed of_shelf of_sink asked s m x p r) same
     (none_serves of_shelf of_sink asked s m n p r task ready (run.written bare) (run.plain bare) run.writes run.clean)
 
+-- the parts of a task that was prepared can be run
+ready_runs : {S : Type 0} (of_shelf : shelf_trait.Ghosts S) (asked : Option Command) (s m : S) (task : Task) → IsReady of_shelf asked s m task → task.setting.job.first ≤ task.setting.job.last → CanRun task
+ready_runs of_shelf asked s m task ready begins = record {
+  lawful = ready.lawful;
+  begins = begins;
+  watched = ready.watched;
+  link = ready.link;
+}
+
+pub plain_runs : {S O : Type 0} (of_shelf : shelf_trait.Ghosts S) (of_sink : sink_trait.Ghosts O) (asked : Option Command) (s m : S) (o n : O) (w : Result Work Stopped)
+    (task : Task) → w ≡ Ok (work.Plain task) → IsPrepared of_shelf of_sink asked s m o n w → CanRun task
+plain_runs of_shelf of_sink asked s m o n w task is prepared =
+    let (ready, begins, same, bare) = subst (IsPrepared of_shelf of_sink asked s m o n) is prepared in
+    ready_runs of_shelf asked s m task ready begins
+
+pub saving_runs : {S O : Type 0} (of_shelf : shelf_trait.Ghosts S) (of_sink : sink_trait.Ghosts O) (asked : Option Command) (s m : S) (o n : O) (w : Result Work Stopped)
+    (task : Task) → w ≡ Ok (work.Saving task) → IsPrepared of_shelf of_sink asked s m o n w → CanRun task
+saving_runs of_shelf of_sink asked s m o n w task is prepared =
+    let (ready, begins, same, saves) = subst (IsPrepared of_shelf of_sink asked s m o n) is prepared in
+    ready_runs of_shelf asked s m task ready begins
+
 -- a task that saves files, and that was carried out on the shelf, serves its command
 pub saving_serves : {S O : Type 0} (of_shelf : shelf_trait.Ghosts S) (of_sink : sink_trait.Ghosts O) (asked : Option Command) (s m u t : S) (o n p : O) (w : Result Work Stopped) (r : Result Answer Stopped)
     (task : Task) → w ≡ Ok (work.Saving task) → IsPrepared of_shelf of_sink asked s m o n w → IsRunOf of_sink task (shelf_call of_shelf m u) n p r → u ≡ t → IsServed of_shelf of_sink asked s t o p r
@@ -496,34 +517,37 @@ pub asked_prepared : {S O : Type 0} (of_shelf : shelf_trait.Ghosts S) (of_sink :
     → found ≡ Some command → IsPrepared of_shelf of_sink (Some command) s t o p r → IsPrepared of_shelf of_sink found s t o p r
 asked_prepared of_shelf of_sink found command s t o p r e is = subst (λ (c : Option Command). IsPrepared of_shelf of_sink c s t o p r) (sym e) is
 
+-- where nothing was touched and no part was run a command, or words that ask for none, are served
+untouched_serves : {S O : Type 0} (of_shelf : shelf_trait.Ghosts S) (of_sink : sink_trait.Ghosts O) (command : Option Command) (s : S) (o : O) (e : Stopped)
+    → ((files : Files) → of_shelf.held s ≡ Some files → IsAnswer files command (shelf_call of_shelf s s) (sink_call of_sink o o) (stopped_message e) (stopped_status e))
+    → (stopped_status e ≡ Usage → command ≡ None) → (command ≡ None → (stopped_status e ≡ Usage) ⊎ (stopped_status e ≡ NoMemory))
+    → CountsShelf (shelf_call of_shelf s s) (stopped_status e) → (may_save command ≡ false → CountsReads (shelf_call of_shelf s s) (stopped_status e))
+    → StopsShelf (shelf_call of_shelf s s) (stopped_status e) → CountsWrites (sink_call of_sink o o) (stopped_status e) → (has_run (stopped_status e) ≡ true → ⊥)
+    → IsServed of_shelf of_sink command s s o o (Err e)
+untouched_serves of_shelf of_sink command s o e answered usage no_command counts reads stops writes never = record {
+  answered = answered;
+  usage = usage;
+  no_command = no_command;
+  counts = counts;
+  reads = reads;
+  stops = stops;
+  writes = writes;
+  untouched = λ r. refl;
+  untouched_by_usage = λ e. refl;
+  unsaved = λ r. refl;
+  clean = λ ran. absurd (never ran);
+}
+
 -- words of which no command was read are served where nothing was touched
 pub unasked_serves : {S O : Type 0} (of_shelf : shelf_trait.Ghosts S) (of_sink : sink_trait.Ghosts O) (words : List (List ℕ)) (s : S) (o : O) (e : Stopped)
     → IsUnasked words e → IsServed of_shelf of_sink (command_of words) s s o o (Err e)
-unasked_serves of_shelf of_sink words s o stopped_is.Usage none = record {
-  answered = λ files told. usage_answer (command_of words) files (shelf_call of_shelf s s) (sink_call of_sink o o) none told refl refl;
-  usage = λ e. none;
-  no_command = λ e. inl refl;
-  counts = refl;
-  reads = λ never. refl;
-  stops = record { read = λ e. absurd cc; saved = λ e. absurd cc };
-  writes = λ e. absurd cc;
-  untouched = λ r. refl;
-  untouched_by_usage = λ e. refl;
-  unsaved = λ r. refl;
-  clean = λ ran. absurd cc;
-}
-unasked_serves of_shelf of_sink words s o stopped_is.NoMemory none = record {
-  answered = λ files told. memory_answer files (command_of words) (shelf_call of_shelf s s) (sink_call of_sink o o) refl refl;
-  usage = λ e. absurd cc;
-  no_command = λ e. inr refl;
-  counts = tt;
-  reads = λ never. tt;
-  stops = record { read = λ e. absurd cc; saved = λ e. absurd cc };
-  writes = λ e. absurd cc;
-  untouched = λ r. refl;
-  untouched_by_usage = λ e. refl;
-  unsaved = λ r. refl;
-  clean = λ ran. absurd cc;
-}
+unasked_serves of_shelf of_sink words s o stopped_is.Usage none =
+    untouched_serves of_shelf of_sink (command_of words) s o stopped_is.Usage
+    (λ files told. usage_answer (command_of words) files (shelf_call of_shelf s s) (sink_call of_sink o o) none told refl refl)
+    (λ e. none) (λ e. inl refl) refl (λ never. refl) (record { read = λ e. absurd cc; saved = λ e. absurd cc }) (λ e. absurd cc) (λ ran. cc)
+unasked_serves of_shelf of_sink words s o stopped_is.NoMemory none =
+    untouched_serves of_shelf of_sink (command_of words) s o stopped_is.NoMemory
+    (λ files told. memory_answer files (command_of words) (shelf_call of_shelf s s) (sink_call of_sink o o) refl refl)
+    (λ e. absurd cc) (λ e. inr refl) tt (λ never. tt) (record { read = λ e. absurd cc; saved = λ e. absurd cc }) (λ e. absurd cc) (λ ran. cc)
 unasked_serves of_shelf of_sink words s o (stopped_is.Refused a) none = absurd none
 unasked_serves of_shelf of_sink words s o stopped_is.WriteFault none = absurd none

@@ -628,6 +628,26 @@ module _ {K O : Type 0} (of_keeper : keeper_trait.Ghosts K) (of_sink : sink_trai
     pub shelf_left : q.files.keeper.now ≡ shelf_after
     pub out_left : q.files.out.now ≡ out_after
 
+  -- its facts in turn
+  pub has_come : {task : Task} {shelf shelf_after : K} {out out_after : O} {p q : Watch_of} {came : Result Counts CrewFault} {r : Result Answer Stopped}
+      → IsSettled task.stats (saves_in task) came r → CameTo of_watching task.setting p q came
+      → p.files.save.now ≡ task.save → p.name.now ≡ task.watch → p.watches.now ≡ task.watches.items → p.files.fresh ≡ task.fresh
+      → p.files.keeper.now ≡ shelf → of_sink.written p.files.out.now ≡ of_sink.written out → of_sink.faults out ≤ of_sink.faults p.files.out.now
+      → q.files.keeper.now ≡ shelf_after → q.files.out.now ≡ out_after → HasCome task shelf shelf_after out out_after p q came r
+  has_come settled run save watch watches fresh shelf written faults shelf_left out_left = record {
+    settled = settled;
+    run = run;
+    save = save;
+    watch = watch;
+    watches = watches;
+    fresh = fresh;
+    shelf_before = shelf;
+    written_before = written;
+    faults_before = faults;
+    shelf_left = shelf_left;
+    out_left = out_left;
+  }
+
   module _ (task : Task) (shelf shelf_after : K) (out out_after : O) (p q : Watch_of) (came : Result Counts CrewFault) (r : Result Answer Stopped)
       (h : HasCome task shelf shelf_after out out_after p q came r) where
     abbrev on_shelf : ShelfCall

@@ -1,6 +1,6 @@
 -- Numbers that were sorted do not fall, and there is one order of them, and one answer for them.
-use Rattle.std.proofs.Common.{◌≡◌, ◌∙◌, refl, sym, ap, ap₂, subst, ℕ, zero, suc, ◌+◌, ℤ, ◌≤ℤ◌, int_le, List, [], ◌∷◌, length, get_or, map, true, false, inl, inr, Result, Ok, Err, arith}
-use Rattle.std.specs.Prelude.{int_lt}
+use Rattle.std.proofs.Common.{◌≡◌, ◌∙◌, refl, sym, ap, ap₂, subst, ℕ, zero, suc, ◌+◌, Option, ℤ, pos, ◌≤ℤ◌, int_le, List, [], ◌∷◌, length, get_or, map, true, false, inl, inr, Result, Ok, Err, arith}
+use Rattle.std.specs.Prelude.{int_lt, option_map, unwrap_or}
 use Rattle.std.specs.List.Sorted.{IsPermutation, IsSorted}
 use Rattle.std.specs.Ordering.{int_eq, int_cmp, is_lt}
 use Rattle.std.proofs.lemmas.Bool.{cases_Bool, and_from}
@@ -16,9 +16,10 @@ use Rattle.brace_balance.specs.Fillings.{filled, IsProof}
 use Rattle.brace_balance.specs.Texts.{plan_line, certificate}
 use Rattle.brace_balance.proofs.Counts.{eq_holds, le_both, not_lt, count_yes, count_no}
 use Rattle.brace_balance.proofs.Ordered.{tail_sorted, first_below}
+use Rattle.brace_model.specs.declared.program.Class.{Class}
 use Rattle.brace_model.specs.declared.program.Program.{Program}
 use Rattle.brace_model.specs.declared.world.Agent.{Agent}
-use Rattle.brace_model.specs.World.{World, x_of}
+use Rattle.brace_model.specs.World.{World, class_of, x_of}
 use Rattle.brace_crew.specs.Sums.{place_along}
 use Rattle.brace_io.specs.Shelves.{Files}
 use Rattle.brace_top.specs.Balances.{IsAlongX, IsBalance}
@@ -102,6 +103,13 @@ along_sorted program agents places xs are moved up = record {
   sorted = sorted_never_falls xs up;
   all = subst (λ (numbers : List ℤ). IsPermutation numbers xs) are moved;
 }
+
+-- where an agent whose class is found stands
+pub place_found : (along : Class → Agent → ℤ) (program : Program) (a : Agent) (found : Option Class)
+    → found ≡ class_of program a
+    → unwrap_or (option_map (λ c. along c a) found) (pos 0) ≡ place_along along program a
+place_found along program a found same =
+    ap (λ (o : Option Class). unwrap_or (option_map (λ (c : Class). along c a) o) (pos 0)) same
 
 -- as many numbers as agents
 pub along_length : (program : Program) (agents : List Agent) (xs : List ℤ) → IsAlongX program agents xs → length xs ≡ length agents

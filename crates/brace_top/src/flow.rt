@@ -1,10 +1,7 @@
 //! How a task is carried out, on one worker or on several.
-ghost use Rattle.std.specs.Prelude.{◌≡◌, ◌≤◌, ℤ, [], IfSome, None, Err, true};
+ghost use Rattle.std.specs.Prelude.{◌≡◌, ◌≤◌, ℤ, [], None, Err, true};
 ghost use Rattle.brace_model.specs.Run.{end_of};
 ghost use Rattle.brace_pieces.specs.declared.setting.Setting.{Setting};
-ghost use Rattle.brace_pieces.specs.Settings.{LawfulSetting};
-ghost use Rattle.brace_watch.specs.Watches.{AreWatches};
-ghost use Rattle.brace_words.specs.Values.{is_link};
 ghost use Rattle.brace_crew.specs.Calls.{CameTo};
 ghost use Rattle.brace_top.specs.Answer.{CountsWrites, sink_call};
 ghost use Rattle.brace_top.specs.Commands as asked;
@@ -12,6 +9,7 @@ ghost use Rattle.brace_top.specs.Outcome.{trial_end};
 ghost use Rattle.brace_top.specs.declared.status.Status.TheVariants.{Done};
 ghost use Rattle.brace_top.specs.Status.{has_run};
 ghost use Rattle.brace_top.specs.Trials.{trial_line};
+ghost use Rattle.brace_top.specs.inner.Prepared.{CanRun};
 ghost use Rattle.brace_top.specs.inner.Settled.{IsRunOf, IsWritten, keeper_call, told_counts, is_plain_work, status_in, message_in};
 ghost use Rattle.brace_top.specs.inner.Words.{said_trial};
 
@@ -124,10 +122,7 @@ pub fn crew_alone<K: Keeper, O: Sink>(
     keeper: &mut K,
     out: &mut O,
 ) -> Result<Answer, Stopped>
-    requires lawful { LawfulSetting task.now.setting }
-    requires begins { task.now.setting.job.first ≤ task.now.setting.job.last }
-    requires watched { AreWatches task.now.setting.job.program task.now.watches.items }
-    requires link { IfSome task.now.link (λ letters. is_link letters.now ≡ true) }
+    requires task { CanRun task.now }
     ensures run { IsRunOf O.Sink task.now (keeper_call K.Keeper keeper.old keeper.new)
         out.old out.new result }
     ensures same_loans { K.loans keeper.new ≡ K.loans keeper.old }
@@ -166,10 +161,7 @@ pub fn crew_on<R: Threads + Wait + Sync, G: Gate + Sync, K: Keeper + Send, O: Si
 ) -> Result<Answer, Stopped>
     requires some { 1 ≤ team.now.workers }
     requires few { team.now.workers ≤ 16 }
-    requires lawful { LawfulSetting task.now.setting }
-    requires begins { task.now.setting.job.first ≤ task.now.setting.job.last }
-    requires watched { AreWatches task.now.setting.job.program task.now.watches.items }
-    requires link { IfSome task.now.link (λ letters. is_link letters.now ≡ true) }
+    requires task { CanRun task.now }
     ensures run { IsRunOf O.Sink task.now (keeper_call K.Keeper keeper.old keeper.new)
         out.old out.new result }
     ensures same_loans { K.loans keeper.new ≡ K.loans keeper.old }

@@ -1,12 +1,13 @@
 //! Balanced strips over the agents of a world, and their texts.
-ghost use Rattle.std.specs.Prelude.{◌≡◌, ◌≤◌, ◌^◌, map, length, IfOk};
+ghost use Rattle.std.specs.Prelude.{◌≡◌, ◌<◌, ◌≤◌, ◌^◌, map, length, option_map, slice_get, slice_index_or, IfOk};
 ghost use Rattle.brace_crew.specs.Sums.{place_along};
+ghost use Rattle.brace_model.specs.declared.world.Agent.{Agent};
 ghost use Rattle.brace_model.specs.World.{x_of};
 ghost use Rattle.brace_top.specs.Balances.{IsAlongX};
 ghost use Rattle.brace_top.specs.Outcome.{told, IsBalanced};
 
 use brace_balance::{balance, print_certificate, print_plan};
-use brace_model::{Agent, Program, World, class_of, x_of};
+use brace_model::{Class, Herd, Program, World};
 use brace_num::NoMemory;
 use std::alloc::Global;
 
@@ -19,29 +20,38 @@ pub struct Strips {
     pub certificate: Vec<u8>,
 }
 
-/// Where an agent stands along x, in millionths.
-fn place(program: &Program, agent: &Agent) -> i64
-    ensures { result ≡ place_along x_of program.now agent.now }
+/// The class of a number, or None where the program has none.
+fn class_numbered(program: &Program, number: u32) -> Option<&Class>
+    ensures { option_map (λ c. c.now) result ≡ slice_get program.now.classes number }
 {
-    match class_of(program, agent) {
+    program.classes.as_slice().get(number as usize)
+}
+
+/// Where the agent at a place of a herd stands along x, in millionths.
+fn x_at(program: &Program, agents: &Herd, place: usize) -> i64
+    requires { place < length agents.now }
+    ensures { (d : Agent)
+        → result ≡ place_along x_of program.now (slice_index_or agents.now place d) }
+{
+    match class_numbered(program, agents.class(place)) {
         None => 0,
-        Some(class) => x_of(class, agent),
+        Some(class) => agents.number(place, class.x),
     }
 }
 
 /// Where agents stand along x, in millionths, as the agents come.
-fn places(alloc: Global, program: &Program, agents: &[Agent]) -> Result<Vec<i64>, NoMemory>
+fn places(alloc: Global, program: &Program, agents: &Herd) -> Result<Vec<i64>, NoMemory>
     ensures { IfOk result (λ xs. xs.items ≡ map (place_along x_of program.now) agents.now) }
 {
     let mut xs = Vec::with_capacity(alloc, agents.len())?;
-    for agent in agents {
-        xs.push(place(program, agent))?;
+    for place in 0..agents.len() {
+        xs.push(x_at(program, agents, place))?;
     }
     Ok(xs)
 }
 
 /// Where agents stand along x, in millionths, in rising order.
-fn along_x(alloc: Global, program: &Program, agents: &[Agent]) -> Result<Vec<i64>, NoMemory>
+fn along_x(alloc: Global, program: &Program, agents: &Herd) -> Result<Vec<i64>, NoMemory>
     ensures { IfOk result (λ xs. IsAlongX program.now agents.now xs.items) }
 {
     let mut xs = places(alloc, program, agents)?;

@@ -43,6 +43,13 @@ pub record IsReady {S : Type 0} (of_shelf : shelf_trait.Ghosts S) (asked : Optio
   pub unsaved : of_shelf.held shelf_after ≡ of_shelf.held shelf
   pub counts : of_shelf.faults shelf_after ≡ of_shelf.faults shelf
 
+-- the parts of a task can be run
+pub record CanRun (task : Task) : Type 0 where
+  pub lawful : LawfulSetting task.setting
+  pub begins : task.setting.job.first ≤ task.setting.job.last
+  pub watched : AreWatches task.setting.job.program task.watches.items
+  pub link : IfSome task.link (λ letters. is_link letters.now ≡ true)
+
 -- what a command, or words that ask for none, came to before its parts are run
 abbrev pub IsPrepared : {S O : Type 0} → shelf_trait.Ghosts S → sink_trait.Ghosts O
     → Option Command → S → S → O → O → Result Work Stopped → Type 0
