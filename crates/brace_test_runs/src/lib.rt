@@ -1,8 +1,10 @@
 //! What tests of the engine work on: programs, agents and runs, of texts.
 #![tactic(auto)]
 
-ghost use Rattle.std.specs.Prelude.{IfOk};
-ghost use Rattle.brace_model.specs.Lawful.{LawfulProgram};
+ghost use Rattle.std.specs.Prelude.{IfOk, IsTrue};
+ghost use Rattle.std.specs.List.{list_all};
+ghost use Rattle.brace_model.specs.Lawful.{LawfulProgram, is_lawful_agent};
+ghost use Rattle.brace_model.specs.World.{RisesById};
 ghost use Rattle.brace_pieces.specs.Settings.{LawfulSetting};
 
 use brace_check::check;
@@ -50,6 +52,21 @@ pub fn agent(alloc: Global, id: u64, values: &[Value]) -> Result<Agent, NoMemory
         id,
         states,
     })
+}
+
+/// The agents of rows, by rising id; or why there are none.
+pub fn agents(alloc: Global, program: &Program, rows: &str) -> Result<Vec<Agent>, &'static str>
+    ensures lawful { IfOk result (λ agents.
+        IsTrue (list_all (is_lawful_agent program.now) agents.items)) }
+    ensures rises { IfOk result (λ agents. RisesById agents.items) }
+{
+    let Ok(world) = read_agents(alloc, program, rows.as_bytes()) else {
+        return Err("no agents");
+    };
+    let Ok(agents) = world.agents().agents() else {
+        return Err("no memory");
+    };
+    Ok(agents)
 }
 
 /// A run: its script, agents and cut plan, its first and last tick, the length of its epochs, every

@@ -9,8 +9,7 @@ use brace_fold::fold;
 use brace_model::{Agent, Program};
 use brace_num::NoMemory;
 use brace_plan::plan;
-use brace_rows::read_agents;
-use brace_test_runs::program;
+use brace_test_runs::{agents, program};
 use std::alloc::Global;
 use std::test::Fail;
 
@@ -45,9 +44,7 @@ fn is_folded(alloc: Global, program: &Program, agents: &[Agent]) -> Result<bool,
 fn folds_what_a_plain_walk_hears(rt: HostRuntime) -> Result<(), Fail> {
     let alloc = rt.alloc();
     let program = program(alloc, TALKING)?;
-    let Ok(world) = read_agents(alloc, &program, ROWS.as_bytes()) else {
-        return Err("no agents".into());
-    };
-    assert!(rt; is_folded(alloc, &program, world.agents())?);
+    let agents = agents(alloc, &program, ROWS)?;
+    assert!(rt; is_folded(alloc, &program, agents.as_slice())?);
     Ok(())
 }

@@ -1,5 +1,5 @@
 // Worlds, sight and the order of faults.
-use brace_model::{Agent, Fault, Phase, Program, Value, World, earlier, fault_less, sees};
+use brace_model::{Agent, Fault, Herd, Phase, Program, Value, World, earlier, fault_less, sees};
 use brace_num::{Kind, NoMemory};
 use brace_test_runs::{agent, program};
 use std::alloc::Global;
@@ -46,10 +46,11 @@ fn sees_up_to_the_range(rt: HostRuntime) -> Result<(), Fail> {
     Ok(())
 }
 
-fn two_agents(alloc: Global, first: u64, second: u64) -> Result<Vec<Agent>, NoMemory> {
-    let mut agents = Vec::new(alloc);
-    agents.push(standing(alloc, first, 0, 0)?)?;
-    agents.push(standing(alloc, second, 0, 0)?)?;
+/// Two agents without states, by their ids.
+fn two_agents(alloc: Global, first: u64, second: u64) -> Result<Herd, NoMemory> {
+    let mut agents = Herd::new(alloc);
+    agents.push(0, first, &[], &[])?;
+    agents.push(0, second, &[], &[])?;
     Ok(agents)
 }
 

@@ -2,8 +2,7 @@
 use brace_fold::{Redo, columns_of};
 use brace_model::{Agent, Program};
 use brace_num::NoMemory;
-use brace_rows::read_agents;
-use brace_test_runs::program;
+use brace_test_runs::{agents, program};
 use std::alloc::Global;
 use std::test::Fail;
 
@@ -51,10 +50,8 @@ const PICKED: &str = "6 2, 1 3, 4 2, / 4 2, 1 3, 6 2, / 1 3, 2 3, 4 2, 5 3, 6 2,
 fn picks_agents_of_rows(rt: HostRuntime) -> Result<(), Fail> {
     let alloc = rt.alloc();
     let program = program(alloc, SCRIPT)?;
-    let Ok(world) = read_agents(alloc, &program, ROWS.as_bytes()) else {
-        return Err("no agents".into());
-    };
-    let Ok(found) = each_way(alloc, &program, world.agents()) else {
+    let agents = agents(alloc, &program, ROWS)?;
+    let Ok(found) = each_way(alloc, &program, agents.as_slice()) else {
         return Err("no columns".into());
     };
     assert_eq!(rt; found.as_str(), PICKED);

@@ -15,8 +15,7 @@ use brace_fold::{
 use brace_model::{Agent, Left, Program};
 use brace_num::NoMemory;
 use brace_plan::{Plans, Room, plan};
-use brace_rows::read_agents;
-use brace_test_runs::program;
+use brace_test_runs::{agents, program};
 use std::alloc::Global;
 use std::test::Fail;
 
@@ -183,10 +182,8 @@ fn renews_all_as_each(rt: HostRuntime) -> Result<(), Fail> {
     let alloc = rt.alloc();
     let program = program(alloc, GROWING)?;
     for &(rows, goes_on) in &CASES {
-        let Ok(world) = read_agents(alloc, &program, rows.as_bytes()) else {
-            return Err("no agents".into());
-        };
-        assert!(rt; each_way(alloc, &program, world.agents())? == (true, goes_on));
+        let agents = agents(alloc, &program, rows)?;
+        assert!(rt; each_way(alloc, &program, agents.as_slice())? == (true, goes_on));
     }
     Ok(())
 }

@@ -8,8 +8,7 @@ use brace_eval::left_by;
 use brace_model::{Agent, Program};
 use brace_num::NoMemory;
 use brace_plan::{Plans, Room, plan};
-use brace_rows::read_agents;
-use brace_test_runs::program;
+use brace_test_runs::{agents, program};
 use std::alloc::Global;
 use std::test::Fail;
 
@@ -87,10 +86,8 @@ fn rules_as_code_leave_what_rules_as_written_do(rt: HostRuntime) -> Result<(), F
     let alloc = rt.alloc();
     for &(script, rows) in &CASES {
         let program = program(alloc, script)?;
-        let Ok(world) = read_agents(alloc, &program, rows.as_bytes()) else {
-            return Err("no agents".into());
-        };
-        assert!(rt; leave_alike(alloc, &program, world.agents())?);
+        let agents = agents(alloc, &program, rows)?;
+        assert!(rt; leave_alike(alloc, &program, agents.as_slice())?);
     }
     Ok(())
 }

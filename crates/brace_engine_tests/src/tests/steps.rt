@@ -1,13 +1,14 @@
 // Expressions, what agents hear, and ticks with deaths and births.
 ghost use Rattle.std.specs.Prelude.{IfOk};
 ghost use Rattle.brace_model.specs.Lawful.{LawfulProgram};
+ghost use Rattle.brace_model.specs.World.{RisesById};
 
 use super::exprs::{binary, int};
 use brace_draw::Drawer;
 use brace_eval::{Heard, eval, plain_step};
-use brace_model::{Agent, BinOp, Env, Expr, Job, Program, Stop, Value, Who, World};
+use brace_model::{Agent, BinOp, Env, Expr, Herd, Job, Program, Stop, Ty, Value, Who, World};
 use brace_num::{Kind, NoMemory};
-use brace_test_runs::{agent, program};
+use brace_test_runs::{agent, agents, program};
 use std::alloc::Global;
 use std::test::Fail;
 
@@ -48,11 +49,10 @@ fn divides_by_a_state(rt: HostRuntime) -> Result<(), Fail> {
 /// A row of an agent: its id, its place along x in millionths, and its count.
 type Row = (u64, i64, i64);
 
-fn agents_of(alloc: Global, rows: &[Row]) -> Result<Vec<Agent>, NoMemory> {
-    let mut agents = Vec::new(alloc);
+fn agents_of(alloc: Global, rows: &[Row]) -> Result<Herd, NoMemory> {
+    let mut agents = Herd::new(alloc);
     for (id, x, count) in rows {
-        let values = [Value::Fixed(*x), Value::Fixed(0), Value::Int(*count)];
-        agents.push(agent(alloc, *id, &values)?)?;
+        agents.push(0, *id, &[Ty::Fixed, Ty::Fixed, Ty::Int], &[*x, 0, *count])?;
     }
     Ok(agents)
 }
@@ -60,7 +60,8 @@ fn agents_of(alloc: Global, rows: &[Row]) -> Result<Vec<Agent>, NoMemory> {
 /// The rows of a world with its next free id.
 fn rows_of(alloc: Global, world: &World) -> Result<String, NoMemory> {
     let mut text = String::new(alloc);
-    for a in world.agents() {
+    let agents = world.agents().agents()?;
+    for a in &agents {
         text.push_str(format!(in alloc; "{} {:?}, ", a.id, a.states.as_slice())?.as_str())?;
     }
     text.push_str(format!(in alloc; "next {}", world.next())?.as_str())?;
@@ -72,7 +73,7 @@ fn job_of(alloc: Global, program: Program) -> Result<Job, Fail>
     requires { LawfulProgram program }
     ensures { IfOk result (λ job. LawfulProgram job.program) }
 {
-    let Some(start) = World::from_rising(Vec::new(alloc)) else {
+    let Some(start) = World::from_rising(Herd::new(alloc)) else {
         return Err("no world".into());
     };
     Ok(Job {
@@ -186,12 +187,13 @@ fn steps_over_deaths_and_births(rt: HostRuntime) -> Result<(), Fail> {
 const SPEAKING: &str = "class B{#visible[1];public state fixed x;public state fixed y;public state \
  int a;public effect int s:sum;public void run(){foreach(B p:Extent<B>){p.s<-3;}}}";
 
-const SPEAKERS: [Row; 3] = [(4, 0, 0), (9, 500_000, 0), (12, 1_100_000, 0)];
+const SPEAKERS: &str = "B,4,0,0,0\nB,9,0.5,0,0\nB,12,1.1,0,0\n";
 
 /// What all agents hear of all but the first, and what the second has then heard, once 9 is joined
 /// to it as two values.
-fn heard_in(alloc: Global, program: &Program, world: &World) -> Result<String, Fail> {
-    let agents = world.agents();
+fn heard_in(alloc: Global, program: &Program, agents: &[Agent]) -> Result<String, Fail>
+    requires { RisesById agents.now }
+{
     let Some((_, asking)) = agents.split_first() else {
         return Err("no agents".into());
     };
@@ -206,11 +208,10 @@ fn heard_in(alloc: Global, program: &Program, world: &World) -> Result<String, F
 
 #[test]
 fn hears_some_agents(rt: HostRuntime) -> Result<(), Fail> {
-    let program = program(rt.alloc(), SPEAKING)?;
-    let Some(world) = World::from_rising(agents_of(rt.alloc(), &SPEAKERS)?) else {
-        return Err("no world".into());
-    };
-    let found = heard_in(rt.alloc(), &program, &world)?;
+    let alloc = rt.alloc();
+    let program = program(alloc, SPEAKING)?;
+    let agents = agents(alloc, &program, SPEAKERS)?;
+    let found = heard_in(alloc, &program, agents.as_slice())?;
     assert_eq!(rt; found.as_str(), "[3, 3, 3] [1, 1, 1], then [12] [3]");
     Ok(())
 }

@@ -51,21 +51,6 @@ fn partial_of(alloc: Global, comb: Comb, said: &[Said]) -> Result<Partial, NoMem
     Ok(partial)
 }
 
-/// What two parts of the values come to, where the second is merged to the first.
-fn merged_of(alloc: Global, comb: Comb, a: &[Said], b: &[Said]) -> Result<Partial, NoMemory>
-    requires first_takes { All (λ s. IsTrue (accepts comb s.value)) a.now }
-    requires first_fit { All (λ s. FitsSigned w64 (number s.value)) a.now }
-    requires first_few { length a.now ≤ 2 ^ 51 }
-    requires second_takes { All (λ s. IsTrue (accepts comb s.value)) b.now }
-    requires second_fit { All (λ s. FitsSigned w64 (number s.value)) b.now }
-    requires second_few { length b.now ≤ 2 ^ 51 }
-{
-    let mut partial = partial_of(alloc, comb, a)?;
-    let other = partial_of(alloc, comb, b)?;
-    partial.merge(other.entries())?;
-    Ok(partial)
-}
-
 /// Whether two parts of the values come to these entries, the second merged to the first and the
 /// first to the second.
 fn come_to(
@@ -82,8 +67,12 @@ fn come_to(
     requires second_fit { All (λ s. FitsSigned w64 (number s.value)) b.now }
     requires second_few { length b.now ≤ 2 ^ 51 }
 {
-    let ab = merged_of(alloc, comb, a, b)?;
-    let ba = merged_of(alloc, comb, b, a)?;
+    let mut ab = partial_of(alloc, comb, a)?;
+    let mut ba = partial_of(alloc, comb, b)?;
+    let first = partial_of(alloc, comb, a)?;
+    let second = partial_of(alloc, comb, b)?;
+    ab.merge(second.entries())?;
+    ba.merge(first.entries())?;
     Ok(ab.entries() == wanted && ba.entries() == wanted)
 }
 

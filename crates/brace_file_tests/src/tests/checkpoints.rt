@@ -1,5 +1,5 @@
 use crate::tests::programs::{agent_of, program_of};
-use brace_model::{Ty, Value, World};
+use brace_model::{Herd, Ty, Value, World};
 use brace_save::{PointFault, read_checkpoint, write_checkpoint};
 use std::alloc::Global;
 use std::test::Fail;
@@ -20,7 +20,7 @@ fn written(alloc: Global) -> Result<Vec<u8>, Fail> {
     let program = program_of(alloc, CLASSES)?;
     let mut agents = Vec::new(alloc);
     agents.push(agent_of(alloc, 0, 7, VALUES)?)?;
-    let world = World::from_rising(agents).ok_or("the ids rise")?;
+    let world = World::from_rising(Herd::of(alloc, &agents)?).ok_or("the ids rise")?;
     let mut out = Vec::new(alloc);
     write_checkpoint(&mut out, &program, 2, 0, &world)?;
     Ok(out)

@@ -1,5 +1,5 @@
 use crate::tests::programs::{agent_of, program_of};
-use brace_model::{Agent, Ty, Value, World};
+use brace_model::{Herd, Ty, Value, World};
 use brace_num::NoMemory;
 use brace_rows::{RowFault, RowKind, make_agents, print_agent, print_tick, read_agents};
 use std::alloc::Global;
@@ -37,12 +37,12 @@ const AGENTS: [(u32, u64, &[Value]); 3] = [
 const ROWS: &[u8] = b"3,P,0,3.000000,-0.000001\n3,Quail,7,1.000000,9223372036854.775807,8,-3\n3,P,\
  9223372036854775807,true,false,-9223372036854775808\n";
 
-fn agents(alloc: Global) -> Result<Vec<Agent>, NoMemory> {
+fn agents(alloc: Global) -> Result<Herd, NoMemory> {
     let mut agents = Vec::new(alloc);
     for &(class, id, values) in &AGENTS {
         agents.push(agent_of(alloc, class, id, values)?)?;
     }
-    Ok(agents)
+    Herd::of(alloc, &agents)
 }
 
 fn rows_of(alloc: Global, tick: u64, world: &World) -> Result<Vec<u8>, NoMemory> {

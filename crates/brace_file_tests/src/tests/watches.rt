@@ -1,7 +1,7 @@
 // Files of watched figures and their texts, worked by hand.
 use crate::tests::plans::cuts_of;
 use crate::tests::programs::{agent_of, program_of};
-use brace_model::{Agent, Ty, Value};
+use brace_model::{Herd, Ty, Value};
 use brace_watch::{WatchFault, WatchKind, print_watched, read_watch};
 use std::alloc::Global;
 use std::test::Fail;
@@ -20,7 +20,7 @@ const CLASSES: &[(&str, &[(&str, Ty)])] = &[(
 // The id, x, n and b of an agent on the line y = 0.
 type Row = (u64, i64, i64, bool);
 
-fn agents(alloc: Global, rows: &[Row]) -> Result<Vec<Agent>, Fail> {
+fn agents(alloc: Global, rows: &[Row]) -> Result<Herd, Fail> {
     let mut agents = Vec::new(alloc);
     for (id, x, n, b) in rows {
         let values = [
@@ -31,7 +31,7 @@ fn agents(alloc: Global, rows: &[Row]) -> Result<Vec<Agent>, Fail> {
         ];
         agents.push(agent_of(alloc, 0, *id, &values)?)?;
     }
-    Ok(agents)
+    Ok(Herd::of(alloc, agents.as_slice())?)
 }
 
 // The text of what a file watches, at a tick, over some agents, with the plane cut at x = 2.
@@ -50,7 +50,7 @@ fn told(alloc: Global, file: &[u8], tick: u64, rows: &[Row]) -> Result<Vec<u8>, 
         watches.as_slice(),
         &cuts,
         tick,
-        agents.as_slice(),
+        &agents,
     )?;
     Ok(out)
 }

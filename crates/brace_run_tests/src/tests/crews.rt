@@ -10,8 +10,8 @@ use brace_crew::{
 };
 use brace_io::{MemShelf, MemSink, OpenGate, Sink};
 use brace_lanes::{LaneSeat, Lanes};
-use brace_model::Value;
-use brace_num::{List, NoMemory};
+use brace_model::{Herd, Value};
+use brace_num::NoMemory;
 use brace_part::Counts;
 use brace_pieces::{Piece, Setting, Shown};
 use brace_test_runs::{Run, agent, setting};
@@ -38,11 +38,10 @@ fn shown(alloc: Global, ticks: &[u32]) -> Result<Vec<Shown>, NoMemory> {
     let mut worlds = Vec::new(alloc);
     for tick in ticks {
         let place = [Value::Fixed(i64::from(*tick) * 500_000), Value::Fixed(-1)];
-        let mut agents = List::new(alloc);
-        agents.push(agent(alloc, 7, &place)?)?;
+        let one = [agent(alloc, 7, &place)?];
         worlds.push(Shown {
             tick: u64::from(*tick),
-            agents,
+            agents: Herd::of(alloc, &one)?,
             next: 8,
         })?;
     }

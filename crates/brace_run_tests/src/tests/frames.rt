@@ -1,6 +1,6 @@
 // Bytes of frames worked by hand.
 use brace_comb::{Entry, Total};
-use brace_model::{Agent, Census, Class, Fault, Parent, Phase, Program, State, Ty, Value};
+use brace_model::{Agent, Census, Class, Fault, Herd, Parent, Phase, Program, State, Ty, Value};
 use brace_num::{Kind, List, NoMemory, Text};
 use brace_pieces::{Cause, Piece, Shown};
 use brace_test_runs::agent;
@@ -146,10 +146,11 @@ fn census(alloc: Global) -> Result<Census, NoMemory> {
 
 /// A world of two agents.
 fn shows(alloc: Global) -> Result<List<Shown>, NoMemory> {
+    let two = agents(alloc, 2)?;
     let mut shows = List::new(alloc);
     shows.push(Shown {
         tick: 8,
-        agents: agents(alloc, 2)?,
+        agents: Herd::of(alloc, two.as_slice())?,
         next: 9,
     })?;
     Ok(shows)

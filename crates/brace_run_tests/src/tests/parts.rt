@@ -11,7 +11,7 @@ use brace_io::{MemShelf, MemSink};
 use brace_model::{Agent, Fault};
 use brace_num::NoMemory;
 use brace_part::Part;
-use brace_pieces::{Setting, moves_of};
+use brace_pieces::{Setting, owned_of};
 use brace_rows::print_tick;
 use brace_test_runs::{Run, setting};
 use std::alloc::Global;
@@ -65,7 +65,7 @@ fn own(alloc: Global, setting: &Setting, p: u32) -> Result<Vec<Agent>, NoMemory>
         (cuts_of setting.now setting.now.job.first) setting.now.job.first) }
 {
     let agents = setting.job.start.agents();
-    Ok(moves_of(alloc, setting, setting.job.first, agents, p)?.into_vec())
+    Ok(owned_of(alloc, setting, setting.job.first, agents, p)?.into_vec())
 }
 
 /// The ids of a part's agents.

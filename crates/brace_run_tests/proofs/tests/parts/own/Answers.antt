@@ -9,5 +9,5 @@ returns c =
     let s = c.args.setting.now in
     record {
       own = own_of s c.args.p c.into_vec.result.items
-          (c.into_vec.ensures ∙ c.in_ok-moves_of.ensures.theirs ∙ ap (owned s.job.program (cuts_of s s.job.first) c.args.p) c.agents-agents.ensures.same);
+          (c.into_vec.ensures ∙ c.in_ok-owned_of.ensures.theirs ∙ ap (owned s.job.program (cuts_of s s.job.first) c.args.p) c.agents-agents.ensures.same);
     }
