@@ -2,7 +2,7 @@
 use Rattle.std.proofs.Common.{◌≡◌, ◌∙◌, ◌<◌, ◌≤◌, ◌+◌, ℕ, ℤ, pos, List, [], ◌∷◌, ◌++◌, map, length, get_or, take, drop, All, sym, refl, ap, ap₂, subst, subst₂, arith, length-append, get_or-drop, length-drop, get_or-append-add}
 use Rattle.std.specs.List.Sorted.{IsNonDecreasingBy}
 use Rattle.std.proofs.lemmas.List.{map-append, length-map, get_or-map, get_or_default}
-use Rattle.std.proofs.lemmas.List.Elements.{All-head, All-tail, All-weaker, All-append, All-map, All-push}
+use Rattle.std.proofs.lemmas.List.Elements.{All-nil, All-cons, All-head, All-tail, All-weaker, All-append, All-map, All-push}
 use Rattle.brace_model.specs.declared.program.Ty.{Ty}
 use Rattle.brace_model.specs.declared.world.Agent.{Agent}
 use Rattle.brace_model.specs.World.{number, value_at}
@@ -219,3 +219,34 @@ module _ (blocks : List Block) (heads : List Head) (place : ℕ) (h : Head)
     number-past d state past =
         ap number (sym (value-past b.types (drop h.start b.words) state past))
         ∙ ap (λ (a : Agent). number (value_at a.states state)) (sym (agent-by d))
+
+-- heads whose blocks stay where they stand
+pub shifted-none : (heads : List Head) → map (shifted 0) heads ≡ heads
+shifted-none [] = refl
+shifted-none (h ∷ heads) =
+    let none : 0 + h.block ≡ h.block = omega arith in
+    ap₂ (λ n l. record { id = h.id; block = n; start = h.start } ∷ l) none (shifted-none heads)
+
+-- ---- the heads at some places
+
+module _ (blocks : List Block) (heads : List Head) (h : Head) where
+  abbrev head_at : ℕ → Head
+  head_at place = get_or heads place h
+
+  pub agents-picked : (places : List ℕ) (d : Agent) → All (λ p. p < length heads) places
+      → agents_of blocks (map head_at places)
+      ≡ map (λ p. get_or (agents_of blocks heads) p d) places
+  agents-picked [] d within = refl
+  agents-picked (p ∷ places) d within =
+      ap₂ (λ (a : Agent) l. a ∷ l)
+      (sym (get_or-map (agent_of blocks) heads p h d
+      (All-head (λ n. n < length heads) p places within)))
+      (agents-picked places d (All-tail (λ n. n < length heads) p places within))
+
+  pub within-picked : AreWithin blocks heads → (places : List ℕ)
+      → All (λ p. p < length heads) places → AreWithin blocks (map head_at places)
+  within-picked all [] within = All-nil (IsWithin blocks)
+  within-picked all (p ∷ places) within =
+      All-cons (IsWithin blocks) (head_at p) (map head_at places)
+      (all p h (All-head (λ n. n < length heads) p places within))
+      (within-picked all places (All-tail (λ n. n < length heads) p places within))

@@ -1,12 +1,13 @@
-ghost use Rattle.std.specs.Prelude.{◌≡◌, ◌<◌, ◌-◌, ◌^◌, ◌++◌, ◌∷◌, [], Some, length, min, slice_get, slice_index_or, IfOk, MatchBool, OnOk};
+ghost use Rattle.std.specs.Prelude.{◌≡◌, ◌<◌, ◌-◌, ◌^◌, ◌++◌, ◌∷◌, [], Some, length, map, min, slice_get, slice_index_or, IfOk, MatchBool, OnOk};
 ghost use Rattle.std.specs.List.{All};
 ghost use Rattle.std.specs.List.Sorted.{IsPermutation, IsNonDecreasingBy};
 ghost use Rattle.brace_model.specs.declared.world.Agent.{Agent};
 ghost use Rattle.brace_model.specs.World.{RisesById, least_next, number, value_at};
 ghost use Rattle.brace_model.specs.Words.{agent_with};
 
-use crate::heads::{Head, shifted};
-use crate::stored::{Block, stored};
+use crate::heads::{Head, picked, shifted};
+use crate::shared::{Shared, all_again};
+use crate::stored::stored;
 use crate::values::{read, typed, types_into, words_into};
 use crate::{Agent, Ty, Value, number};
 use brace_num::{List, NoMemory};
@@ -16,11 +17,12 @@ use std::marker::Model;
 /// Agents in a few vectors: of each its id and where its words lie, in a block of its class.
 /// Contracts see the list of the agents.
 ///
-/// An agent takes 16 bytes and 8 for each of its values.
+/// An agent takes 16 bytes and 8 for each of its values. Herds of the same agents may have their
+/// words in common.
 #[derive(Debug, Drop)]
 pub struct Herd {
     alloc: Global,
-    blocks: Vec<Block>,
+    blocks: Vec<Shared>,
     heads: Vec<Head>,
     /// For how many words the first block is to have room.
     room: usize,
@@ -88,22 +90,14 @@ impl Herd {
         self.heads.len()
     }
 
-    /// How many values its agents have, if 64 bits hold that.
-    fn values(&self) -> usize {
-        let mut all: usize = 0;
-        for block in &self.blocks {
-            all = all.saturating_add(block.words.as_slice().len());
-        }
-        all
-    }
-
     /// The class of the agent at a place, by its number.
     pub fn class(&self, place: usize) -> u32
         requires { place < length self.now }
         ensures { (d : Agent) → result ≡ (slice_index_or self.now place d).class }
     {
         let head = self.heads[place];
-        self.blocks[head.block as usize].class
+        let shared = &self.blocks[head.block as usize];
+        shared.block().class
     }
 
     /// The id of the agent at a place.
@@ -120,7 +114,8 @@ impl Herd {
         ensures { (d : Agent) → result ≡ length (slice_index_or self.now place d).states }
     {
         let head = self.heads[place];
-        self.blocks[head.block as usize].types.as_slice().len()
+        let shared = &self.blocks[head.block as usize];
+        shared.block().types.as_slice().len()
     }
 
     /// Whether each agent's id is above that of the agent before it.
@@ -174,7 +169,8 @@ impl Herd {
             → result ≡ number (value_at (slice_index_or self.now place d).states state) }
     {
         let head = self.heads[place];
-        let block = &self.blocks[head.block as usize];
+        let shared = &self.blocks[head.block as usize];
+        let block = shared.block();
         let types = block.types.as_slice();
         if state < types.len() {
             number(typed(
@@ -192,7 +188,8 @@ impl Herd {
         ensures { IfOk result (λ agent. slice_get self.now place ≡ Some agent) }
     {
         let head = self.heads[place];
-        let block = &self.blocks[head.block as usize];
+        let shared = &self.blocks[head.block as usize];
+        let block = shared.block();
         let mut values = values;
         let words = &block.words.as_slice()[head.start as usize..];
         read(block.types.as_slice(), words, &mut values)?;
@@ -254,7 +251,8 @@ impl Herd {
             → self.new ≡ self.old ++ slice_index_or other.now place d ∷ []) }
     {
         let head = other.heads[place];
-        let block = &other.blocks[head.block as usize];
+        let shared = &other.blocks[head.block as usize];
+        let block = shared.block();
         let types = block.types.as_slice();
         let words = &block.words.as_slice()[head.start as usize..];
         self.push(block.class, head.id, types, &words[..types.len()])
@@ -278,15 +276,34 @@ impl Herd {
         Ok(())
     }
 
-    /// A herd of the same agents.
+    /// A herd of the same agents, whose words are where they are.
     pub fn copy(&self, alloc: Global) -> Result<Herd, NoMemory>
         ensures { IfOk result (λ copy. copy ≡ self.now) }
     {
-        let mut copy = Herd::with_room(alloc, self.heads.len(), self.values())?;
-        for place in 0..self.len() {
-            copy.take(self, place)?;
-        }
-        Ok(copy)
+        let blocks = all_again(alloc, &self.blocks)?;
+        let heads = shifted(alloc, &self.heads, 0)?;
+        Ok(Herd {
+            alloc,
+            blocks,
+            heads,
+            room: 0,
+        })
+    }
+
+    /// A herd of the agents at some places, whose words are where they are; `NoMemory` where there
+    /// is no such place.
+    pub fn picked(&self, alloc: Global, places: &[u32]) -> Result<Herd, NoMemory>
+        ensures { IfOk result (λ herd. (d : Agent)
+            → herd ≡ map (λ place. slice_index_or self.now place d) places.now) }
+    {
+        let blocks = all_again(alloc, &self.blocks)?;
+        let heads = picked(alloc, &self.heads, places)?;
+        Ok(Herd {
+            alloc,
+            blocks,
+            heads,
+            room: 0,
+        })
     }
 
     /// Puts the agents in an order in which ids do not fall. It takes no memory.

@@ -9,6 +9,7 @@ mod job;
 pub mod laws;
 mod next;
 mod program;
+mod shared;
 mod sight;
 mod stored;
 mod values;

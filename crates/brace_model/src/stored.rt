@@ -4,6 +4,7 @@ ghost use Rattle.std.specs.Bool.{OnTrue};
 ghost use Rattle.brace_model.specs.inner.Packed.{AreGrown, HasBlock, IsBlock, IsGrown, IsStored};
 
 use crate::Ty;
+use crate::shared::Shared;
 use brace_num::{List, NoMemory};
 use std::alloc::Global;
 
@@ -54,12 +55,13 @@ fn is_of(block: &Block, class: u32, types: &[Ty]) -> bool
     block.class == class && are_same(block.types.as_slice(), types)
 }
 
-/// The number of a block of a class and of types, if there is one.
-fn found(blocks: &[Block], class: u32, types: &[Ty]) -> Option<usize>
+/// The number of a block of a class and of types that one herd alone has, if there is one.
+fn found(blocks: &[Shared], class: u32, types: &[Ty]) -> Option<usize>
     ensures { IfSome result (HasBlock blocks.now class types.now) }
 {
     for k in 0..blocks.len() {
-        if is_of(&blocks[k], class, types) {
+        let shared = &blocks[k];
+        if is_of(shared.block(), class, types) && shared.is_alone() {
             return Some(k);
         }
     }
@@ -86,11 +88,11 @@ fn empty(alloc: Global, class: u32, types: &[Ty], room: usize) -> Result<Block, 
     })
 }
 
-/// The number of a block of a class and of types, which is put behind the others where there is
-/// none.
+/// The number of a block of a class and of types that one herd alone has, which is put behind the
+/// others where there is none.
 fn numbered(
     alloc: Global,
-    blocks: &mut Vec<Block>,
+    blocks: &mut Vec<Shared>,
     class: u32,
     types: &[Ty],
     room: usize,
@@ -102,12 +104,13 @@ fn numbered(
         return Ok(number);
     }
     let number = blocks.len();
-    blocks.push(empty(alloc, class, types, room)?)?;
+    let block = Shared::of(alloc, empty(alloc, class, types, room)?)?;
+    blocks.push(block)?;
     Ok(number)
 }
 
 /// Puts words behind those of a block, and tells the place at which they begin.
-fn extended(block: &mut Block, words: &[i64]) -> Result<u32, NoMemory>
+pub fn extended(block: &mut Block, words: &[i64]) -> Result<u32, NoMemory>
     ensures there { IfOk result (λ start. drop start block.new.words ≡ words.now) }
     ensures within { IfOk result (λ start. start ≤ length block.new.words) }
     ensures grown { IsGrown block.old block.new }
@@ -125,7 +128,7 @@ fn extended(block: &mut Block, words: &[i64]) -> Result<u32, NoMemory>
 /// room for so many words.
 pub(crate) fn stored(
     alloc: Global,
-    blocks: &mut Vec<Block>,
+    blocks: &mut Vec<Shared>,
     class: u32,
     types: &[Ty],
     words: &[i64],
@@ -138,6 +141,6 @@ pub(crate) fn stored(
     let Ok(block) = u32::try_from(number) else {
         return Err(NoMemory);
     };
-    let start = extended(&mut blocks[number], words)?;
+    let start = blocks[number].extended(words)?;
     Ok(Spot { block, start })
 }

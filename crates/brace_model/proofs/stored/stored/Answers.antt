@@ -11,7 +11,7 @@ returns c =
     let n = c.in_ok-number.number in
     let has = c.in_ok-number.ensures.there in
     let old : Block = c.index_mut.result.now in
-    let new : Block = c.extended.new.block in
+    let new : Block = c.extended.new.self in
     let start = c.in_ok-start.start in
     let is : old ≡ get_or mid n no_block =
     c.index_mut.ensures.value ∙ get_or_default mid n old no_block has.there in

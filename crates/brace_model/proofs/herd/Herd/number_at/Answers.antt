@@ -1,4 +1,4 @@
-use Rattle.std.proofs.Common.{◌≡◌, ◌<◌, ◌≤◌, ◌∙◌, ◌+◌, ℤ, pos, List, get_or, length, ap, ap₂, subst, rules, to_z, of_z, w64}
+use Rattle.std.proofs.Common.{◌≡◌, ◌<◌, ◌≤◌, ◌∙◌, ◌+◌, ℤ, pos, List, get_or, length, ap, ap₂, subst, sym, rules, to_z, of_z, w64}
 use Rattle.std.proofs.lemmas.Int.{to_z-of_z}
 use Rattle.brace_model.specs.declared.program.Ty.{Ty}
 use Rattle.brace_model.specs.declared.program.Ty.TheVariants as ty
@@ -19,7 +19,9 @@ returns-then-state-types c d =
     let place = c.args.place in
     let state = c.args.state in
     let h : Head = c.index-head.result.now in
-    let b : Block = c.index-block.result.now in
+    let b : Block = c.block-block.result.now in
+    let is = subst (λ (x : Block). x ≡ get_or blocks h.block x) (sym c.block-block.ensures)
+    c.index-shared.ensures in
     let low : place < length heads =
     as_many blocks heads c.args.self.now place c.self.view_is c.requires in
     let there : state < length b.types =
@@ -34,7 +36,7 @@ returns-then-state-types c d =
     ∙ ap₂ (λ (l : List Ty) (w : ℤ). typed (get_or l state ty.Int) w) c.as_slice-types.ensures
     (plain ∙ read)
     ∙ number-there blocks heads place h low c.index-head.ensures c.self.invariant b
-    c.index-block.ensures d state ty.Int (pos 0) there
+    is d state ty.Int (pos 0) there
     ∙ ap (λ (l : List Agent). value_at (get_or l place d).states state) c.self.view_is)
 
 pub returns-else-state-types : goal.returns-else-state-types
@@ -45,11 +47,13 @@ returns-else-state-types c d =
     let place = c.args.place in
     let state = c.args.state in
     let h : Head = c.index-head.result.now in
-    let b : Block = c.index-block.result.now in
+    let b : Block = c.block-block.result.now in
+    let is = subst (λ (x : Block). x ≡ get_or blocks h.block x) (sym c.block-block.ensures)
+    c.index-shared.ensures in
     let low : place < length heads =
     as_many blocks heads c.args.self.now place c.self.view_is c.requires in
     let past : length b.types ≤ state =
     subst (λ (l : List Ty). length l ≤ state) c.as_slice-types.ensures c.if-state-types.false in
     number-past blocks heads place h low c.index-head.ensures c.self.invariant b
-    c.index-block.ensures d state past
+    is d state past
     ∙ ap (λ (l : List Agent). number (value_at (get_or l place d).states state)) c.self.view_is

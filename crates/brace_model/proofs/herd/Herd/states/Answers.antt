@@ -1,4 +1,4 @@
-use Rattle.std.proofs.Common.{◌<◌, ◌∙◌, List, get_or, length, ap}
+use Rattle.std.proofs.Common.{◌≡◌, ◌<◌, ◌∙◌, List, get_or, length, ap, subst, sym}
 use Rattle.brace_model.specs.declared.world.Agent.{Agent}
 use Rattle.brace_model.specs.declared.stored.Block.{Block}
 use Rattle.brace_model.specs.declared.heads.Head.{Head}
@@ -12,7 +12,10 @@ returns c d =
     let place = c.args.place in
     let low : place < length heads =
     as_many blocks heads c.args.self.now place c.self.view_is c.requires in
+    let b : Block = c.block.result.now in
+    let is = subst (λ (x : Block). x ≡ get_or blocks c.index-head.result.now.block x)
+    (sym c.block.ensures) c.index-shared.ensures in
     ap length c.as_slice.ensures
     ∙ states-there blocks heads place c.index-head.result.now low c.index-head.ensures
-    c.self.invariant c.index.result.now c.index.ensures d
+    c.self.invariant b is d
     ∙ ap (λ (l : List Agent). length (get_or l place d).states) c.self.view_is
