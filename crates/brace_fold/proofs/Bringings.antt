@@ -22,7 +22,7 @@ use Rattle.brace_comb.proofs.Said.{said_to-append}
 use Rattle.brace_eval.specs.Heard.{effects_in}
 use Rattle.brace_fold.specs.declared.table.Sum.{Sum}
 use Rattle.brace_fold.specs.declared.table.Table.{Table}
-use Rattle.brace_fold.specs.Sums.{AreSummed, IsSum, sum_at, sum_place, summed}
+use Rattle.brace_fold.specs.Sums.{AreSummed, IsJoined, IsSum, sum_at}
 use Rattle.brace_fold.specs.Hears.{Hears}
 use Rattle.brace_fold.specs.inner.Joins.{said_of, to_effect}
 use Rattle.brace_fold.specs.Asked.{by_row, no_agent}
@@ -69,13 +69,11 @@ pub sum-hears : (program : Program) (sorted agents : List Agent) (more : List Sa
     → slice_get sorted place ≡ Some a → slice_get agents row ≡ Some a
     → slice_get (effects_in (class_of program a)) effect ≡ Some e → e.comb ≡ comb
     → AreSummed program sorted more told → sum ≡ sum_at told effect place → 0 < sum.count
-    → number ≡ sum.number → count ≡ sum.count → after.rows ≡ before.rows → row < before.rows
-    → sum_place before.rows effect row < length before.sums.items
-    → after.sums.items ≡ set before.sums.items (sum_place before.rows effect row)
-    (summed comb (sum_at before effect row) number count)
+    → number ≡ sum.number → count ≡ sum.count
+    → IsJoined comb effect row number count before after
     → Hears program agents (to_effect a.id effect more) before after
 sum-hears program sorted agents more told before after place row effect a e comb sum number count
-    apart found here has same are is some number_is count_is rows_is low inside sums =
+    apart found here has same are is some number_is count_is joined_is =
     let values : List Value = said_to a.id effect more in
     let theirs = are.sums place effect a e found has in
     let total : number ≡ total_of e.comb values =
@@ -85,9 +83,8 @@ sum-hears program sorted agents more told before after place row effect a e comb
     count_is ∙ ap (λ (s : Sum). s.count) is ∙ theirs.many in
     subst (λ l. Hears program agents l before after) (sayings-back a.id effect more)
     (hears-sum program agents before after row effect count number a e values
-    (pairs_differ (λ (x : Agent). x.id) agents apart) here has total many rows_is low inside
-    (sums ∙ ap (λ (c : Comb). set before.sums.items (sum_place before.rows effect row)
-    (summed c (sum_at before effect row) number count)) (sym same)))
+    (pairs_differ (λ (x : Agent). x.id) agents apart) here has total many
+    (subst (λ c. IsJoined c effect row number count before after) (sym same) joined_is))
 
 -- ---- all sums
 

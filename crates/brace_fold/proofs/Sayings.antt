@@ -29,12 +29,11 @@ use Rattle.brace_fold.specs.declared.crowd.Depth.{Depth}
 use Rattle.brace_fold.specs.declared.crowd.Stretch.{Stretch}
 use Rattle.brace_fold.specs.declared.saying.Ear.{Ear}
 use Rattle.brace_fold.specs.declared.scene.Scene.{Scene}
-use Rattle.brace_fold.specs.declared.table.Sum as cell
 use Rattle.brace_fold.specs.declared.table.Table.{Table}
 use Rattle.brace_fold.specs.inner.Crowds.{IsLane, IsFound, IsOfClass, IsScene, Stands, has_outer, has_inner, rows, spread, world}
 use Rattle.brace_fold.specs.inner.Deeds.{between}
 use Rattle.brace_fold.specs.inner.Ears.{AreTold, IsEar, row_of, is_there, told, told_at, told_by}
-use Rattle.brace_fold.specs.Sums.{HasSums, no_sum, sum_place, summed}
+use Rattle.brace_fold.specs.Sums.{IsJoined}
 use Rattle.brace_fold.specs.Hears.{Hears}
 use Rattle.brace_fold.specs.Asked.{no_agent}
 use Rattle.brace_fold.proofs.Alikes.{hears-more}
@@ -79,33 +78,16 @@ counted type words from next n low is =
     let long = between-long from next words (subst (λ n. next ≤ n) (sym is) low) in
     omega (arith, ints, many, same, long)
 
--- the sums of an effect stand where they stood, though one was set
-pub has-still : (before after : Table) (effect first place : ℕ) (sum : cell.Sum)
-    → HasSums before effect first → after.rows ≡ before.rows
-    → after.sums.items ≡ set before.sums.items place sum → HasSums after effect first
-has-still before after effect first place sum has rows_are set_is = record {
-  place = has.place ∙ ap (λ n. effect * n) (sym rows_are);
-  within = omega (
-    arith,
-    has.within,
-    rows_are,
-    ap length set_is
-        ∙ length-set before.sums.items place sum,
-  );
-}
-
 -- words were joined to the sum of an effect of the agent of a row
 pub hears-words : (scene : Scene) (ear : Ear) (comb : Comb) (type : Ty) (row count : ℕ)
     (words : List ℤ) (number : ℤ) (before after : Table) (a : Agent)
-    → IsScene scene → IsEar scene ear → HasSums before ear.effect ear.first → comb ≡ ear.comb
+    → IsScene scene → IsEar scene ear → comb ≡ ear.comb
     → IsOfClass (rows scene) ear.class row
     → slice_get (rows scene) row ≡ Some a → number ≡ total_of comb (map (typed type) words)
-    → count ≡ length words → after.rows ≡ before.rows → row < before.rows
-    → after.sums.items ≡ set before.sums.items (ear.first + row)
-    (summed comb (get_or before.sums.items (ear.first + row) no_sum) number count)
+    → count ≡ length words → IsJoined comb ear.effect row number count before after
     → Hears scene.program.now (rows scene) (told_at a ear.effect type words) before after
-hears-words scene ear comb type row count words number before after a scene_is hears has_sums
-    same (b, had, of) found is many same_rows low sums =
+hears-words scene ear comb type row count words number before after a scene_is hears same
+    (b, had, of) found is many joined_is =
     let program = scene.program.now in
     let values = map (typed type) words in
     let one : Value → Saying = λ v. record { target = a.id; field = ear.effect; value = v } in
@@ -116,18 +98,11 @@ hears-words scene ear comb type row count words number before after a scene_is h
     ∙ ap (λ o. slice_get (effects_in o) ear.effect) hears.has ∙ hears.there in
     let apart = apart_moved (world scene) (rows scene) scene_is.rises scene_is.moved in
     let joins : comb ≡ hears.effect.comb = same ∙ hears.comb in
-    let at : ear.first + row ≡ sum_place before.rows ear.effect row =
-    ap (λ n. n + row) has_sums.place in
-    let inside : sum_place before.rows ear.effect row < length before.sums.items =
-    omega (arith, at, low, has_sums.within) in
-    let now : Comb → ℕ → List cell.Sum = λ k n. set before.sums.items n
-    (summed k (get_or before.sums.items n no_sum) number count) in
     subst (λ l. Hears program (rows scene) l before after) (mapped (typed type) one words)
     (hears-sum program (rows scene) before after row ear.effect count number a hears.effect values
     apart found has (is ∙ ap (λ (c : Comb). total_of c values) joins)
-    (many ∙ sym (length-map words (typed type))) same_rows low inside
-    (sums ∙ ap (now comb) at
-    ∙ ap (λ k. now k (sum_place before.rows ear.effect row)) joins))
+    (many ∙ sym (length-map words (typed type)))
+    (subst (λ k. IsJoined k ear.effect row number count before after) joins joined_is))
 
 -- the agent that a name stands for stands in its row
 pub agent-there : (scene : Scene) (depth : Depth) (who : Who) (lane : Lane) (s : Scope) → IsLane scene depth lane s → is_there depth who ≡ true

@@ -1,7 +1,6 @@
 -- Sums of what is said, row by row.
-use Rattle.std.proofs.Common.{◌≡◌, ◌∙◌, refl, sym, ap, ap₂, subst, ℕ, zero, suc, ◌+◌, ◌*◌, ◌<◌, ℤ, Bool, false, cond, ◌&&◌, List, [], ◌∷◌, ◌++◌, append-nil, map, filter, length, get_or, set, Some, arith, slice_get, ⊎_elim}
+use Rattle.std.proofs.Common.{◌≡◌, ◌∙◌, refl, sym, ap, ap₂, subst, ℕ, zero, suc, ◌+◌, ◌<◌, ℤ, Bool, false, cond, ◌&&◌, List, [], ◌∷◌, ◌++◌, append-nil, map, filter, length, get_or, set, replicate, Some, arith, slice_get, ⊎_elim}
 use Rattle.std.specs.Prelude.{◌==◌, if◌then◌else◌}
-use Rattle.std.proofs.Math.Nat.{add-mul, mul-le-mul_right}
 use Rattle.std.proofs.lemmas.Bool.{cases_eq, cases_order, eq-eqb, ne_eqb}
 use Rattle.std.proofs.lemmas.List.{get_or-set_other, get_or-set_same, length-append}
 use Rattle.std.proofs.lemmas.List.Sums.{fold-append}
@@ -24,20 +23,74 @@ use Rattle.brace_comb.proofs.Said.{said_to-append}
 use Rattle.brace_eval.specs.Heard.{effects_in}
 use Rattle.brace_fold.specs.declared.table.Sum.{Sum}
 use Rattle.brace_fold.specs.declared.table.Table.{Table}
-use Rattle.brace_fold.specs.Sums.{AreSummed, IsSum, no_sum, sum_at, sum_place, summed}
+use Rattle.brace_fold.specs.Sums.{AreSummed, IsJoined, IsSum, no_sum, sum_at, summed, sums_of}
 use Rattle.brace_fold.specs.Hears.{Hears}
 use Rattle.brace_fold.proofs.Taking.{AreApart}
 
--- two places of a table are one only where their effects and rows are
-same-cell : (n f g r s : ℕ) → r < n → s < n → f * n + r ≡ g * n + s → (f ≡ g) × (r ≡ s)
-same-cell n f g r s low high e =
-    ⊎_elim
-    (λ (same : f ≡ g). (same, omega (arith, e, ap (λ k. k * n) same)))
-    (λ other. ⊎_elim
-    (λ (less : f < g). absurd (omega (arith, e, low, mul-le-mul_right {m = f + 1} {n = g} n (omega (arith, less)), add-mul f 1 n)))
-    (λ (more : g < f). absurd (omega (arith, e, high, mul-le-mul_right {m = g + 1} {n = f} n (omega (arith, more)), add-mul g 1 n)))
-    other)
-    (cases_order f g)
+-- ---- one sum of a table
+
+-- a sum that is set among those of its effect is joined
+pub joined-set : (comb : Comb) (effect row : ℕ) (number : ℤ) (count : ℕ) (before after : Table)
+    → after.rows ≡ before.rows → effect < length before.sums.items
+    → row < length (sums_of before effect)
+    → after.sums.items ≡ set before.sums.items effect (set (sums_of before effect) row
+    (summed comb (sum_at before effect row) number count))
+    → IsJoined comb effect row number count before after
+joined-set comb effect row number count before after same inside low is = record {
+  rows = same;
+  sum = ap (λ l. get_or l row no_sum) here ∙ get_or-set_same old row sum no_sum low;
+  others = λ f r apart. ⊎_elim
+      (λ (one : f ≡ effect).
+      ap (λ n. sum_at after n r) one ∙ ap (λ l. get_or l r no_sum) here
+      ∙ get_or-set_other old row r sum no_sum (apart one) ∙ ap (λ n. sum_at before n r) (sym one))
+      (λ (ne : f ≡ effect → ⊥).
+      ap (λ l. get_or (get_or l f []) r no_sum) is
+      ∙ ap (λ l. get_or l r no_sum) (get_or-set_other lists effect f new [] ne))
+      (cases_eq f effect);
+}
+  where
+    lists : List (List Sum)
+    lists = before.sums.items
+
+    old : List Sum
+    old = sums_of before effect
+
+    sum : Sum
+    sum = summed comb (sum_at before effect row) number count
+
+    new : List Sum
+    new = set old row sum
+
+    here : sums_of after effect ≡ new
+    here = ap (λ l. get_or l effect []) is ∙ get_or-set_same lists effect new [] inside
+
+none-in : (rows row : ℕ) → get_or (replicate rows no_sum) row no_sum ≡ no_sum
+none-in zero row = refl
+none-in (suc n) zero = refl
+none-in (suc n) (suc row) = none-in n row
+
+none-at : (effects rows effect row : ℕ)
+    → get_or (get_or (replicate effects (replicate rows no_sum)) effect []) row no_sum ≡ no_sum
+none-at zero rows zero row = refl
+none-at zero rows (suc effect) row = refl
+none-at (suc n) rows zero row = none-in rows row
+none-at (suc n) rows (suc effect) row = none-at n rows effect row
+
+-- to a table of sums of no value nothing was said
+pub nothing-said : (program : Program) (agents : List Agent) (effects rows : ℕ) (table : Table)
+    → rows ≡ length agents → table.rows ≡ rows
+    → table.sums.items ≡ replicate effects (replicate rows no_sum)
+    → AreSummed program agents [] table
+nothing-said program agents effects rows table many long is = record {
+  long = long ∙ many;
+  sums = λ row effect a e got has.
+      let none : sum_at table effect row ≡ no_sum =
+      ap (λ l. get_or (get_or l effect []) row no_sum) is ∙ none-at effects rows effect row in
+      record {
+        many = ap (λ (s : Sum). s.count) none;
+        number = λ some. absurd (omega (arith, some, ap (λ (s : Sum). s.count) none));
+      };
+}
 
 -- ---- what is said to one effect
 
@@ -80,18 +133,10 @@ summed-is comb old us vs number count h is many = record {
 -- values were joined to an effect of the agent of a row
 module _ (program : Program) (rows : List Agent) (before after : Table) (row effect count : ℕ) (number : ℤ) (a : Agent) (e : Effect) (values : List Value)
     (apart : AreApart rows) (got : slice_get rows row ≡ Some a) (has : slice_get (effects_in (class_of program a)) effect ≡ Some e)
-    (is : number ≡ total_of e.comb values) (many : count ≡ length values) (same_rows : after.rows ≡ before.rows) (low : row < before.rows)
-    (inside : sum_place before.rows effect row < length before.sums.items)
-    (set_is : after.sums.items ≡ set before.sums.items (sum_place before.rows effect row) (summed e.comb (sum_at before effect row) number count)) where
+    (is : number ≡ total_of e.comb values) (many : count ≡ length values)
+    (joined_is : IsJoined e.comb effect row number count before after) where
   abbrev told : List Saying
   told = sayings_to a.id effect values
-
-  -- a sum behind
-  sum-behind : (f r : ℕ) → sum_at after f r
-      ≡ get_or (set before.sums.items (sum_place before.rows effect row) (summed e.comb (sum_at before effect row) number count)) (sum_place before.rows f r) no_sum
-  sum-behind f r =
-      ap (λ (n : ℕ). get_or after.sums.items (sum_place n f r) no_sum) same_rows
-      ∙ ap (λ (l : List Sum). get_or l (sum_place before.rows f r) no_sum) set_is
 
   module _ (said : List Saying) (k : AreSummed program rows said before) where
     abbrev Is : ℕ → ℕ → Agent → Effect → Type 0
@@ -100,11 +145,9 @@ module _ (program : Program) (rows : List Agent) (before after : Table) (row eff
     hit : Is row effect a e
     hit =
         let sum = summed e.comb (sum_at before effect row) number count in
-        let here : sum_at after effect row ≡ sum =
-        sum-behind effect row ∙ get_or-set_same before.sums.items (sum_place before.rows effect row) sum no_sum inside in
         let all : said_to a.id effect said ++ values ≡ said_to a.id effect (said ++ told) =
         ap (λ l. said_to a.id effect said ++ l) (sym (told-here a.id effect values)) ∙ sym (said_to-append a.id effect said told) in
-        subst (λ (s : Sum). IsSum e.comb (said_to a.id effect (said ++ told)) s) (sym here)
+        subst (λ (s : Sum). IsSum e.comb (said_to a.id effect (said ++ told)) s) (sym joined_is.sum)
         (subst (λ l. IsSum e.comb l sum) all
         (summed-is e.comb (sum_at before effect row) (said_to a.id effect said) values number count (k.sums row effect a e got has) is many))
 
@@ -117,15 +160,10 @@ module _ (program : Program) (rows : List Agent) (before after : Table) (row eff
     miss : (r f : ℕ) (b : Agent) (d : Effect) → slice_get rows r ≡ Some b → slice_get (effects_in (class_of program b)) f ≡ Some d
         → (f ≡ effect → r ≡ row → ⊥) → ((a.id == b.id) && (effect == f)) ≡ false → Is r f b d
     miss r f b d found has_it other off =
-        let within : r < before.rows = subst (λ n. r < n) (sym k.long) (slice_get_within rows r b found) in
-        let apart_from : sum_place before.rows f r ≡ sum_place before.rows effect row → ⊥ =
-        λ same. let both = same-cell before.rows f effect r row within low same in other both.0 both.1 in
-        let here : sum_at after f r ≡ sum_at before f r =
-        sum-behind f r ∙ get_or-set_other before.sums.items (sum_place before.rows effect row) (sum_place before.rows f r) (summed e.comb (sum_at before effect row) number count) no_sum apart_from in
         let none : said_to b.id f told ≡ [] = told-other b.id f a.id effect values off in
         let all : said_to b.id f said ≡ said_to b.id f (said ++ told) =
         sym (said_to-append b.id f said told ∙ ap (λ l. said_to b.id f said ++ l) none ∙ append-nil (said_to b.id f said)) in
-        subst (λ (s : Sum). IsSum d.comb (said_to b.id f (said ++ told)) s) (sym here)
+        subst (λ (s : Sum). IsSum d.comb (said_to b.id f (said ++ told)) s) (sym (joined_is.others f r other))
         (subst (λ l. IsSum d.comb l (sum_at before f r)) all (k.sums r f b d found has_it))
 
     -- agents of two rows have different ids
@@ -157,7 +195,7 @@ module _ (program : Program) (rows : List Agent) (before after : Table) (row eff
   pub hears-sum : Hears program rows (sayings_to a.id effect values) before after
   hears-sum = record {
     each = λ said k. record {
-      long = same_rows ∙ k.long;
+      long = joined_is.rows ∙ k.long;
       sums = λ r f b d found has_it. each-sum said k r f b d found has_it;
     };
   }

@@ -1,5 +1,5 @@
 -- What was said to agents, row by row.
-use Rattle.std.specs.Prelude.{◌≡◌, ◌==◌, if◌then◌else◌, ℕ, ℤ, ◌+◌, ◌*◌, ◌<◌, ◌≤◌, pos, List, length, slice_get, slice_index_or, Some}
+use Rattle.std.specs.Prelude.{◌≡◌, ◌==◌, if◌then◌else◌, ℕ, ℤ, ◌+◌, ◌<◌, pos, List, [], length, slice_get, slice_index_or, Some}
 use Rattle.brace_model.specs.declared.program.Comb.{Comb}
 use Rattle.brace_model.specs.declared.program.Effect.{Effect}
 use Rattle.brace_model.specs.declared.program.Program.{Program}
@@ -13,10 +13,6 @@ use Rattle.brace_eval.specs.Heard.{effects_in}
 use Rattle.brace_fold.specs.declared.table.Sum.{Sum}
 use Rattle.brace_fold.specs.declared.table.Table.{Table}
 
--- where the sum of an effect of a row stands in a table of so many rows
-abbrev pub sum_place : ℕ → ℕ → ℕ → ℕ
-sum_place rows effect row = effect * rows + row
-
 -- a sum of no value
 abbrev pub no_sum : Sum
 no_sum = record { number = pos 0; count = 0 }
@@ -28,15 +24,20 @@ summed comb sum number count = record {
   count = sum.count + count;
 }
 
+-- the sums of an effect, row by row
+abbrev pub sums_of : Table → ℕ → List Sum
+sums_of table effect = slice_index_or table.sums.items effect []
+
 -- the sum of an effect of a row
 abbrev pub sum_at : Table → ℕ → ℕ → Sum
-sum_at table effect row =
-    slice_index_or table.sums.items (sum_place table.rows effect row) no_sum
+sum_at table effect row = slice_index_or (sums_of table effect) row no_sum
 
--- the sums of an effect begin at a place of a table, one for each row
-pub record HasSums (table : Table) (effect first : ℕ) : Type 0 where
-  pub place : first ≡ effect * table.rows
-  pub within : first + table.rows ≤ length table.sums.items
+-- the total of so many values more was joined to the sum of an effect of a row
+pub record IsJoined (comb : Comb) (effect row : ℕ) (number : ℤ) (count : ℕ) (before after : Table)
+    : Type 0 where
+  pub rows : after.rows ≡ before.rows
+  pub sum : sum_at after effect row ≡ summed comb (sum_at before effect row) number count
+  pub others : (f r : ℕ) → (f ≡ effect → r ≡ row → ⊥) → sum_at after f r ≡ sum_at before f r
 
 -- the total whose sum this is; of no value, the one that is given
 abbrev pub total_in : ℤ → Sum → ℤ

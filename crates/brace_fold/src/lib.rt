@@ -21,6 +21,7 @@ mod lists;
 mod order;
 mod outcome;
 mod owning;
+mod packed;
 mod renewal;
 mod renewing;
 mod rows;

@@ -7,7 +7,7 @@ use crate::columns::{
 use crate::order::Moved;
 use crate::surviving::agent_in;
 use brace_code::Redo;
-use brace_model::{Agent, Program, Value};
+use brace_model::{Agent, Program};
 use std::alloc::Global;
 
 /// The agents of a list and then those of another in columns, as many as any class of a program has
@@ -32,22 +32,8 @@ pub fn columns_of(
     })
 }
 
-/// A vector for states: that of an agent that is not needed any more, where there is one.
-pub fn vector_of(alloc: Global, used: Option<Agent>) -> Vec<Value> {
-    match used {
-        Some(agent) => agent.states.into_vec(),
-        None => Vec::new(alloc),
-    }
-}
-
-/// The agent of a row, with its states in the vector of an agent that is not needed any more.
-pub fn agent_at(
-    alloc: Global,
-    program: &Program,
-    columns: &Columns,
-    row: u32,
-    used: &mut Vec<Agent>,
-) -> Result<Agent, Redo>
+/// The agent of a row.
+fn agent_at(alloc: Global, program: &Program, columns: &Columns, row: u32) -> Result<Agent, Redo>
     ensures is { IfOk result (λ a. a ≡ row_in program.now columns.now row) }
     ensures there { IfOk result (λ a. slice_get (rows_in program.now columns.now) row ≡ Some a) }
 {
@@ -57,19 +43,12 @@ pub fn agent_at(
     let Some(class) = program.classes.as_slice().get(number as usize) else {
         return Err(Redo);
     };
-    let values = vector_of(alloc, used.pop());
-    let agent = agent_in(class, number, columns, row, values)?;
+    let agent = agent_in(class, number, columns, row, Vec::new(alloc))?;
     Ok(agent)
 }
 
-/// The agents of columns, row by row, with their states in the vectors of agents that are not
-/// needed any more.
-pub fn agents_of(
-    alloc: Global,
-    program: &Program,
-    columns: &Columns,
-    mut used: Vec<Agent>,
-) -> Result<Vec<Agent>, Redo>
+/// The agents of columns, row by row.
+pub fn agents_of(alloc: Global, program: &Program, columns: &Columns) -> Result<Vec<Agent>, Redo>
     ensures { IfOk result (λ agents. agents.items ≡ rows_in program.now columns.now) }
 {
     let mut agents = Vec::with_capacity(alloc, columns.ids.len())?;
@@ -77,7 +56,7 @@ pub fn agents_of(
         let Ok(row) = u32::try_from(k) else {
             return Err(Redo);
         };
-        let agent = agent_at(alloc, program, columns, row, &mut used)?;
+        let agent = agent_at(alloc, program, columns, row)?;
         agents.push(agent)?;
     }
     Ok(agents)

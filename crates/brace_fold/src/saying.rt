@@ -8,7 +8,6 @@ ghost use Rattle.brace_fold.specs.declared.scene.Scene.{Scene};
 ghost use Rattle.brace_model.specs.Total.{total_of};
 ghost use Rattle.brace_fold.specs.inner.Ears.{AreHeard, IsEar, Listens, hearing, row_of, is_there, told_at, told_by};
 ghost use Rattle.brace_fold.specs.Hears.{Hears};
-ghost use Rattle.brace_fold.specs.Sums.{HasSums};
 
 use crate::crowd::{Crowd, Depth, Stretch, has_inner, has_outer};
 use crate::scene::Scene;
@@ -133,16 +132,13 @@ pub struct Ear {
     pub class: u32,
     pub effect: u32,
     pub comb: Comb,
-    /// Where its sums begin in the table that hears.
-    pub first: usize,
 }
 
 impl<'a> Scene<'a> {
     /// The ear of the agent of a row.
-    fn ear(&self, row: u32, effect: u32, heard: &Table) -> Result<Ear, Redo>
+    fn ear(&self, row: u32, effect: u32) -> Result<Ear, Redo>
         ensures ear { IfOk result (λ ear. IsEar self.now ear) }
         ensures effect { IfOk result (λ ear. ear.effect ≡ effect) }
-        ensures sums { IfOk result (λ ear. HasSums heard.now ear.effect ear.first) }
     {
         let Some(number) = self.class_at(row) else {
             return Err(Redo);
@@ -153,14 +149,10 @@ impl<'a> Scene<'a> {
         let Some(target) = class.effects.as_slice().get(effect as usize) else {
             return Err(Redo);
         };
-        let Some(first) = heard.first_of(effect as usize) else {
-            return Err(Redo);
-        };
         Ok(Ear {
             class: number,
             effect,
             comb: target.comb,
-            first,
         })
     }
 
@@ -176,17 +168,16 @@ impl<'a> Scene<'a> {
         count: u32,
         heard: &mut Table,
     ) -> Result<(), Redo>
-        requires listens { Listens self.now ear.now heard.old }
+        requires listens { Listens self.now ear.now }
         requires comb { comb ≡ ear.now.comb }
-        ensures sums { OnOk result (HasSums heard.new ear.now.effect ear.now.first) }
-        ensures hears { OnOk result ((a : Agent) (type : Ty) (words : List ℤ)
+        ensures { OnOk result ((a : Agent) (type : Ty) (words : List ℤ)
             → slice_get (rows self.now) row ≡ Some a → count ≡ length words
             → number ≡ total_of comb (map (typed type) words)
             → Hears self.now.program.now (rows self.now)
             (told_at a ear.now.effect type words) heard.old heard.new) }
     {
         self.expect_class(row, ear.class)?;
-        heard.join_at(ear.first, row, comb, number, count)?;
+        heard.join(ear.effect, row, comb, number, count)?;
         Ok(())
     }
 
@@ -198,7 +189,7 @@ impl<'a> Scene<'a> {
         spoken: &S,
         heard: &mut Table,
     ) -> Result<(), Redo>
-        requires listens { Listens self.now ear.now heard.old }
+        requires listens { Listens self.now ear.now }
         requires comb { S.joins spoken.now ≡ ear.now.comb }
         ensures { OnOk result (AreHeard self.now ear.now.effect (S.type_of spoken.now) hearers.now
             (S.reads spoken.now) heard.old heard.new) }
@@ -225,7 +216,7 @@ impl<'a> Scene<'a> {
         spoken: &S,
         heard: &mut Table,
     ) -> Result<(), Redo>
-        requires listens { Listens self.now ear.now heard.old }
+        requires listens { Listens self.now ear.now }
         requires comb { S.joins spoken.now ≡ ear.now.comb }
         ensures { OnOk result (AreHeard self.now ear.now.effect (S.type_of spoken.now)
             (spread stretches.now) (S.reads spoken.now) heard.old heard.new) }
@@ -259,7 +250,7 @@ impl<'a> Scene<'a> {
         spoken: &S,
         heard: &mut Table,
     ) -> Result<(), Redo>
-        requires listens { Listens self.now ear.now heard.old }
+        requires listens { Listens self.now ear.now }
         requires comb { S.joins spoken.now ≡ ear.now.comb }
         ensures { OnOk result (AreHeard self.now ear.now.effect (S.type_of spoken.now)
             (hearing hearers.entry) (S.reads spoken.now) heard.old heard.new) }
@@ -279,7 +270,7 @@ impl<'a> Scene<'a> {
         words: View,
         heard: &mut Table,
     ) -> Result<(), Redo>
-        requires listens { Listens self.now ear.now heard.old }
+        requires listens { Listens self.now ear.now }
         ensures { OnOk result (AreHeard self.now ear.now.effect ty (hearing hearers.entry)
             words.entry heard.old heard.new) }
     {
@@ -332,7 +323,7 @@ impl<'a> Scene<'a> {
         let Some(first) = hearers.first() else {
             return Err(Redo);
         };
-        let ear = self.ear(first, effect, &*heard)?;
+        let ear = self.ear(first, effect)?;
         self.say_hearers(&ear, hearers, ty, words, heard)?;
         Ok(())
     }

@@ -1,12 +1,14 @@
-ghost use Rattle.std.specs.Prelude.{◌≡◌, ◌<◌, ◌≤◌, ◌+◌, [], length, slice_index_or, slice_set, IfOk, IfSome, OnOk, List};
+ghost use Rattle.std.specs.Prelude.{◌≡◌, ◌<◌, [], length, replicate, slice_index_or, slice_set, IfOk, IfSome, OnOk, List};
 ghost use Rattle.brace_model.specs.declared.program.Program.{Program};
 ghost use Rattle.brace_model.specs.declared.world.Agent.{Agent};
 ghost use Rattle.brace_comb.specs.Totals.{merged};
-ghost use Rattle.brace_fold.specs.Sums.{AreSummed, HasSums, no_sum, sum_at, sum_place, summed};
+ghost use Rattle.brace_fold.specs.Sums.{AreSummed, IsJoined, no_sum, sum_at, summed};
 
+use crate::packed::Packed;
 use brace_code::Redo;
 use brace_model::Comb;
 use std::alloc::Global;
+use std::marker::Model;
 
 /// The number of a total of values, and how many they are; of none the number stands for nothing.
 #[derive(Clone, Copy, Drop)]
@@ -15,13 +17,28 @@ pub struct Sum {
     pub count: u32,
 }
 
-/// What was said to agents, row by row: a column of sums for each effect.
+/// The sums of an effect, row by row. Contracts see the list.
+#[derive(Drop)]
+pub struct EffectSums {
+    sums: Vec<Packed>,
+}
+
+impl Model for EffectSums {
+    ghost use Rattle.std.specs.Prelude.{List};
+    ghost use Rattle.brace_fold.specs.declared.table.Sum.{Sum};
+
+    ghost Value = { List Sum };
+
+    ghost view = { λ e. e.sums.items };
+}
+
+/// What was said to agents, row by row.
 #[derive(Drop)]
 pub struct Table {
     /// How many rows there are.
     pub rows: usize,
-    /// The sums, effect after effect, row after row.
-    pub sums: Vec<Sum>,
+    /// The sums of each effect.
+    pub sums: Vec<EffectSums>,
 }
 
 /// The number of a total, where 64 bits hold it.
@@ -64,76 +81,67 @@ fn summed(comb: Comb, sum: Sum, number: i64, count: u32) -> Result<Sum, Redo>
     Ok(Sum { number, count })
 }
 
+impl EffectSums {
+    /// The sums of an effect of which nothing was said, in so many rows.
+    fn nothing(alloc: Global, rows: usize) -> Result<EffectSums, Redo>
+        ensures { IfOk result (λ sums. sums ≡ replicate rows no_sum) }
+    {
+        let none = Packed::of(Sum {
+            number: 0,
+            count: 0,
+        });
+        let sums = vec![in alloc; none; rows]?;
+        Ok(EffectSums { sums })
+    }
+
+    /// The sums.
+    pub fn as_slice(&self) -> &[Packed]
+        ensures { result.now ≡ self.now }
+    {
+        self.sums.as_slice()
+    }
+
+    /// Joins the total of so many values to the sum of a row.
+    #[inline(always)]
+    fn join(&mut self, row: u32, comb: Comb, number: i64, count: u32) -> Result<(), Redo>
+        ensures row { OnOk result (row < length self.old) }
+        ensures sums { OnOk result (self.new ≡ slice_set self.old row
+            (summed comb (slice_index_or self.old row no_sum) number count)) }
+    {
+        let row = row as usize;
+        if row >= self.sums.len() {
+            return Err(Redo);
+        }
+        let sum = summed(comb, self.sums[row].sum(), number, count)?;
+        self.sums[row] = Packed::of(sum);
+        Ok(())
+    }
+}
+
 impl Table {
     /// The table of so many rows and effects to which nothing was said.
     pub fn nothing(alloc: Global, rows: usize, effects: usize) -> Result<Table, Redo>
         ensures { IfOk result (λ table. (program : Program) (agents : List Agent)
             → rows ≡ length agents → AreSummed program agents [] table) }
     {
-        let Some(size) = rows.checked_mul(effects) else {
-            return Err(Redo);
-        };
-        let none = Sum {
-            number: 0,
-            count: 0,
-        };
-        let sums = vec![in alloc; none; size]?;
-        Ok(Table { rows, sums })
-    }
-
-    /// Where the sums of an effect begin; None where they are not in the table.
-    pub fn first_of(&self, effect: usize) -> Option<usize>
-        ensures { IfSome result (HasSums self.now effect) }
-    {
-        let first = effect.checked_mul(self.rows)?;
-        let end = first.checked_add(self.rows)?;
-        if self.sums.len() < end {
-            return None;
+        let mut sums = Vec::with_capacity(alloc, effects)?;
+        for _ in 0..effects {
+            sums.push(EffectSums::nothing(alloc, rows)?)?;
         }
-        Some(first)
+        Ok(Table { rows, sums })
     }
 
     /// The sum of an effect of a row.
     pub fn sum(&self, effect: u32, row: u32) -> Option<Sum>
-        ensures sum { IfSome result (λ sum. sum ≡ sum_at self.now effect row) }
-        ensures row { IfSome result (λ _. row < self.now.rows) }
+        ensures { IfSome result (λ sum. sum ≡ sum_at self.now effect row) }
     {
-        let first = self.first_of(effect as usize)?;
-        let row = row as usize;
-        if row >= self.rows {
-            return None;
-        }
-        Some(self.sums[first + row])
-    }
-
-    /// Joins the total of so many values to an effect, whose sums begin at a place, of a row.
-    #[inline(always)]
-    pub fn join_at(
-        &mut self,
-        first: usize,
-        row: u32,
-        comb: Comb,
-        number: i64,
-        count: u32,
-    ) -> Result<(), Redo>
-        requires { first + self.old.rows ≤ length self.old.sums.items }
-        ensures rows { self.new.rows ≡ self.old.rows }
-        ensures row { OnOk result (row < self.old.rows) }
-        ensures sums { OnOk result (self.new.sums.items ≡ slice_set self.old.sums.items
-            (first + row)
-            (summed comb (slice_index_or self.old.sums.items (first + row) no_sum)
-            number count)) }
-    {
-        let row = row as usize;
-        if row >= self.rows {
-            return Err(Redo);
-        }
-        let at = first + row;
-        self.sums[at] = summed(comb, self.sums[at], number, count)?;
-        Ok(())
+        let sums = self.sums.get(effect as usize)?;
+        let sum = sums.as_slice().get(row as usize)?;
+        Some(sum.sum())
     }
 
     /// Joins the total of so many values to an effect of a row.
+    #[inline(always)]
     pub fn join(
         &mut self,
         effect: u32,
@@ -142,17 +150,13 @@ impl Table {
         number: i64,
         count: u32,
     ) -> Result<(), Redo>
-        ensures rows { self.new.rows ≡ self.old.rows }
-        ensures row { OnOk result (row < self.old.rows) }
-        ensures within { OnOk result (sum_place self.old.rows effect row
-            < length self.old.sums.items) }
-        ensures sums { OnOk result (self.new.sums.items ≡ slice_set self.old.sums.items
-            (sum_place self.old.rows effect row)
-            (summed comb (sum_at self.old effect row) number count)) }
+        ensures { OnOk result (IsJoined comb effect row number count self.old self.new) }
     {
-        let Some(first) = self.first_of(effect as usize) else {
+        let effect = effect as usize;
+        if effect >= self.sums.len() {
             return Err(Redo);
-        };
-        self.join_at(first, row, comb, number, count)
+        }
+        self.sums[effect].join(row, comb, number, count)?;
+        Ok(())
     }
 }

@@ -9,7 +9,7 @@ ghost use Rattle.brace_eval.specs.Heard.{row_of};
 ghost use Rattle.brace_fold.specs.Asked.{by_row};
 ghost use Rattle.brace_fold.specs.Sums.{AreSummed, no_sum, sum_at, total_in};
 
-use crate::order::item_within;
+use crate::packed::Packed;
 use crate::table::{Sum, Table, narrow};
 use brace_code::{Redo, are_within};
 use brace_comb::identity;
@@ -18,13 +18,13 @@ use brace_num::List;
 use std::alloc::Global;
 
 /// The sums of an effect, row by row.
-fn sums_of<'a>(said: &'a Table, effect: usize) -> Option<&'a [Sum]>
+fn sums_of<'a>(said: &'a Table, effect: usize) -> Option<&'a [Packed]>
     ensures rows { IfSome result (λ sums. length sums.now ≡ said.now.rows) }
     ensures sums { IfSome result (λ sums. (row : ℕ) → row < said.now.rows
         → slice_index_or sums.now row no_sum ≡ sum_at said.now effect row) }
 {
-    let first = said.first_of(effect)?;
-    Some(&said.sums[first..first + said.rows])
+    let sums = said.sums.get(effect)?.as_slice();
+    (sums.len() == said.rows).then_some(sums)
 }
 
 /// The total whose sum this is; of no value, the one that is given.
@@ -35,7 +35,7 @@ fn total_in(none: i64, sum: Sum) -> i64
 }
 
 /// The totals of a combinator in some rows, by the sums of all.
-fn total_column(alloc: Global, comb: Comb, sums: &[Sum], rows: &[u32]) -> Result<List<i64>, Redo>
+fn total_column(alloc: Global, comb: Comb, sums: &[Packed], rows: &[u32]) -> Result<List<i64>, Redo>
     ensures words { IfOk result (λ words. words
         ≡ map (λ row. total_in (identity comb) (slice_index_or sums.now row no_sum)) rows.now) }
     ensures within { IfOk result (λ _. (k : ℕ) → k < length rows.now
@@ -47,7 +47,8 @@ fn total_column(alloc: Global, comb: Comb, sums: &[Sum], rows: &[u32]) -> Result
     }
     let mut words = Vec::with_capacity(alloc, rows.len())?;
     for row in rows {
-        words.push_reserved(total_in(none, item_within(sums, *row)));
+        let sum = sums[*row as usize].sum();
+        words.push_reserved(total_in(none, sum));
     }
     Ok(List::from_vec(words))
 }

@@ -20,7 +20,6 @@ use Rattle.brace_fold.specs.declared.saying.Hearers.TheVariants.{Each, Stretches
 use Rattle.brace_fold.specs.declared.scene.Scene.{Scene}
 use Rattle.brace_fold.specs.declared.table.Table.{Table}
 use Rattle.brace_fold.specs.Hears.{Hears}
-use Rattle.brace_fold.specs.Sums.{HasSums}
 use Rattle.brace_fold.specs.inner.Crowds.{IsScene, has_outer, has_inner, rows, spread}
 
 -- the row of the agent that a name stands for in a lane
@@ -48,11 +47,10 @@ pub record IsEar (scene : Scene) (ear : Ear) : Type 0 where
   pub there : slice_get class.effects ear.effect ≡ Some effect
   pub comb : ear.comb ≡ effect.comb
 
--- an ear of a scene listens: its sums stand in the table of what is heard
-pub record Listens (s : Scene) (e : Ear) (heard : Table) : Type 0 where
+-- an ear of a scene listens
+pub record Listens (s : Scene) (e : Ear) : Type 0 where
   pub scene : IsScene s
   pub ear : IsEar s e
-  pub sums : HasSums heard e.effect e.first
 
 -- the agents that a name stands for in scopes stand in these rows, one each
 pub record AreTold (scene : Scene) (who : Who) (hearers : List ℕ) (scopes : List Scope)

@@ -12,7 +12,7 @@ returns-then-sum-eq0 c = λ rows a e more said faults found row has summed h.
     let none : c.in-Some.sum.count ≡ 0 = search rules in
     subst (λ (l : List Saying). IsHeard program agents (said ++ l) faults c.args.heard.now)
     (sym (sum-none program rows more c.args.table.now c.args.row c.args.effect a e c.in-Some.sum row
-    has summed c.in-Some.ensures.sum none))
+    has summed c.in-Some.ensures none))
     (subst (λ (l : List Saying). IsHeard program agents l faults c.args.heard.now) (sym (append-nil said)) h)
 
 pub returns : goal.returns
@@ -20,5 +20,5 @@ returns c = λ rows a e more said faults found row has summed h.
     let some : 0 < c.in-Some.sum.count = search rules in
     c.in_ok-join.ensures.told a said (to_effect a.id c.args.effect more) faults found h
     (sum-told c.args.program.now rows more c.args.table.now c.args.row c.args.effect a e
-    c.in-Some.sum row has summed c.in-Some.ensures.sum _ _
+    c.in-Some.sum row has summed c.in-Some.ensures _ _
     (search rules) (search rules) some)

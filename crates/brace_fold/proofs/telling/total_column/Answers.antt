@@ -1,8 +1,7 @@
 use Rattle.std.proofs.Common.{◌≡◌, ◌∙◌, ◌++◌, ◌∷◌, [], ap, ap₂, rules, sym, to_z, of_z, w64, ℕ, ℤ, List, get_or, map, take}
 use Rattle.std.specs.Int.{w128}
 use Rattle.std.proofs.lemmas.Int.{to_z-of_z}
-use Rattle.std.proofs.lemmas.List.{map-append, take_all, take_more}
-use Rattle.std.proofs.lemmas.Option.{get_or_from_slice_get}
+use Rattle.std.proofs.lemmas.List.{get_or_default, map-append, take_all, take_more}
 use Rattle.brace_model.specs.Total.{identity}
 use Rattle.brace_fold.specs.Sums.{no_sum, total_in}
 use Rattle.brace_fold.proofs.telling.total_column.Goals as goal
@@ -21,11 +20,14 @@ loop-row-preserved c = record {
       search (rules, to_z-of_z) in
       let word : to_z w64 (of_z w64 c.total_in.result) ≡ c.total_in.result =
       search (rules, to_z-of_z) in
+      let read : c.index-sums-row.result ≡ get_or sums row no_sum =
+      c.index-sums-row.is
+      ∙ get_or_default sums row c.index-sums-row.result no_sum (search rules) in
       c.push_reserved.ensures.items
       ∙ ap₂ (λ (l : List ℤ) v. l ++ v ∷ []) c.loop-row.invariant.so_far
       (word ∙ c.total_in.ensures
       ∙ ap₂ total_in (held ∙ c.in_ok-none.ensures ∙ wide ∙ c.identity.ensures)
-      (sym (get_or_from_slice_get sums row _ no_sum c.item_within.ensures)))
+      (c.sum-sum.ensures ∙ read))
       ∙ sym (ap (map tells) (take_more rows k 0 c.loop-row-test.true)
       ∙ map-append tells (take k rows) (row ∷ []));
   room = search rules;

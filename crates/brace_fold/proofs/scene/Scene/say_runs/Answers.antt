@@ -13,7 +13,6 @@ use Rattle.brace_fold.proofs.scene.Scene.say_runs.Goals as goal
 
 pub loop-at-init : goal.loop-at-init
 loop-at-init g c = record {
-  sums = c.requires.listens.sums;
   within = omega arith;
   said = λ who scopes told long.
       hears-none c.args.self.now.program.now (rows c.args.self.now) c.args.heard.now;
@@ -21,7 +20,6 @@ loop-at-init g c = record {
 
 pub loop-at-preserved : goal.loop-at-preserved
 loop-at-preserved g c = record {
-  sums = c.in_ok-say_to.ensures.sums;
   within = c.run_end-next.ensures.within.1;
   said = λ who scopes told long.
       let type = g.S.Spoken.type_of c.args.spoken.now in
@@ -39,7 +37,7 @@ loop-at-preserved g c = record {
       c.args.hearers.now _ c.args.heard.now c.loop-at.heard c.say_to.new.heard
       told long (omega (arith, c.run_end-next.ensures.within.0)) c.run_end-next.ensures.within.1
       (search rules) (λ k from low. c.run_end-next.ensures.same k from low)
-      (λ x found. c.in_ok-say_to.ensures.hears x type these found
+      (λ x found. c.in_ok-say_to.ensures x type these found
       (c.in_ok-count.ensures ∙ sym many) is)
       (c.loop-at.invariant.said who scopes told long);
 }

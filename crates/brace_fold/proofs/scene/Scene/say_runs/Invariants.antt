@@ -5,12 +5,10 @@ use Rattle.brace_code.specs.Lanes.{words_of}
 use Rattle.brace_fold.specs.inner.Crowds.{rows}
 use Rattle.brace_fold.specs.inner.Ears.{AreTold, told_by}
 use Rattle.brace_fold.specs.Hears.{Hears}
-use Rattle.brace_fold.specs.Sums.{HasSums}
 use Rattle.brace_fold.proofs.scene.Scene.say_runs.Given as goal
 
 abbrev pub invariant-loop-at : goal.invariant-loop-at
 invariant-loop-at g l = record {
-  sums : HasSums l.heard l.ear.effect l.ear.first;
   within : l.at ≤ length l.hearers;
   said : (who : Who) (scopes : List Scope) → AreTold l.self who l.hearers scopes
       → length (words_of (length scopes) (g.S.Spoken.reads l.spoken)) ≡ length scopes

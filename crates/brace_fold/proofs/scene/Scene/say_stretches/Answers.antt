@@ -14,7 +14,6 @@ use Rattle.brace_fold.proofs.scene.Scene.say_stretches.Goals as goal
 
 pub loop-stretch-init : goal.loop-stretch-init
 loop-stretch-init g c = record {
-  sums = c.requires.listens.sums;
   at = refl;
   said = λ who scopes told long.
       hears-none c.args.self.now.program.now (rows c.args.self.now) c.args.heard.now;
@@ -31,7 +30,6 @@ loop-stretch-preserved g c =
     let ends = c.in-Some.ensures.next in
     let some = c.in-Some.ensures.some in
     record {
-      sums = c.in_ok-say_to.ensures.sums;
       at = stretch-next all i _ low at next front ends;
       said = λ who scopes told long.
           let most = stretch-within all i _ low at next front ends in
@@ -49,7 +47,7 @@ loop-stretch-preserved g c =
           (spread all) _ c.args.heard.now c.loop-stretch.heard c.say_to.new.heard told long some
           most (sym (rows_at at (omega arith) some))
           (λ k from less. rows_at k (omega (arith, from)) less)
-          (λ x found. c.in_ok-say_to.ensures.hears x type these found
+          (λ x found. c.in_ok-say_to.ensures x type these found
           (omega (arith, ends, many)) is)
           (c.loop-stretch.invariant.said who scopes told long);
     }

@@ -5,12 +5,10 @@ use Rattle.brace_code.specs.Lanes.{words_of}
 use Rattle.brace_fold.specs.inner.Crowds.{rows, spread}
 use Rattle.brace_fold.specs.inner.Ears.{AreTold, told_by}
 use Rattle.brace_fold.specs.Hears.{Hears}
-use Rattle.brace_fold.specs.Sums.{HasSums}
 use Rattle.brace_fold.proofs.scene.Scene.say_stretches.Given as goal
 
 abbrev pub invariant-loop-stretch : goal.invariant-loop-stretch
 invariant-loop-stretch g l = record {
-  sums : HasSums l.heard l.ear.effect l.ear.first;
   at : l.at ≡ length (spread (take l.stretch-index l.stretches));
   said : (who : Who) (scopes : List Scope) → AreTold l.self who (spread l.stretches) scopes
       → length (words_of (length scopes) (g.S.Spoken.reads l.spoken)) ≡ length scopes
