@@ -20,6 +20,7 @@ use Rattle.brace_names.specs.Tables.{look}
 use Rattle.brace_names.specs.Classes.{Known, known}
 use Rattle.brace_names.specs.Scopes.{Home, home_of, Scope, outermost}
 use Rattle.brace_check.specs.declared.share.Share.{Share}
+use Rattle.brace_check.specs.declared.program.Outline.{Outline}
 use Rattle.brace_check.specs.Findings.{millionths}
 use Rattle.brace_check.specs.Meanings.{Meaning, plain, site, made, followed, number_of, expression, block, part}
 
@@ -104,20 +105,33 @@ first_or_0 ranges = unwrap_or (slice_get ranges 0) (pos 0)
 abbrev pub place_of : List ℕ → List State → ℕ
 place_of name states = position_or_len (λ s. bytes_eq s.name name) states
 
--- a class whose members have this together
-abbrev pub class_with : ClassTree → Share → Class
-class_with class all = record {
+-- what a class has that is not numbered over the whole script
+abbrev pub outline_of : ClassTree → Outline
+outline_of class = record {
   name = class.name.text;
   visible = first_or_0 (flat_map visible_of class.members);
   reach = first_or_0 (flat_map reach_of class.members);
+  effects = flat_map effect_of class.members;
+}
+
+-- a class of this outline, whose members have this together
+abbrev pub filled : Outline → Share → Class
+filled outline all = record {
+  name = outline.name;
+  visible = outline.visible;
+  reach = outline.reach;
   x = place_of (codes "x") all.states;
   y = place_of (codes "y") all.states;
   states = all.states;
-  effects = flat_map effect_of class.members;
+  effects = outline.effects;
   query = unwrap_or (slice_get all.queries 0) [];
   die = slice_get all.die 0;
   spawn = slice_get all.spawn 0;
 }
+
+-- a class whose members have this together
+abbrev pub class_with : ClassTree → Share → Class
+class_with class all = filled (outline_of class) all
 
 -- a class
 abbrev pub class_of : Home → ClassTree → Meaning Class

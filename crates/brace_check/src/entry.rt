@@ -70,6 +70,21 @@ fn first(faults: &[CheckFault]) -> Option<CheckFault>
     Some(best)
 }
 
+// The program that a script stands for, or the first fault of its checks.
+fn checked(alloc: Global, r: &Resolved) -> Result<Program, CheckFault>
+    ensures program { IfOk result (λ p. p ≡ program_of r.now) }
+    ensures faultless { OnOk result (faults r.now ≡ []) }
+    ensures first { IfErr result (Refuses r.now) }
+{
+    let classes = r.tree.classes.as_slice();
+    let known = Classes::of(alloc, classes)?;
+    let faults = found(alloc, &known, classes)?;
+    if let Some(fault) = first(faults.as_slice()) {
+        return Err(fault);
+    }
+    Ok(program(alloc, &known, classes)?)
+}
+
 /// The program that a script stands for, or the first fault of its checks: that of the earliest of
 /// the nine passes that has one, and in it the one at the least offset; of wrong types the first in
 /// finishing order. `NoMemory` comes only where the allocator refused, or where more than
@@ -82,11 +97,5 @@ pub fn check(alloc: Global, r: Resolved) -> Result<Program, CheckFault>
     ensures first { IfErr result (Refuses r) }
     ensures lawful { (src : List ℕ) → IsResolved src r → IfOk result LawfulProgram }
 {
-    let classes = r.tree.classes.as_slice();
-    let known = Classes::of(alloc, classes)?;
-    let faults = found(alloc, &known, classes)?;
-    if let Some(fault) = first(faults.as_slice()) {
-        return Err(fault);
-    }
-    Ok(program(alloc, &known, classes)?)
+    checked(alloc, &r)
 }

@@ -1,7 +1,7 @@
 use brace_num::NoMemory;
 
 /// What a check of a script refuses, and the offset at which it is found.
-#[derive(Debug, Clone, Copy, PartialEq, Eq, Drop)]
+#[derive(Debug, Clone, Copy, Drop)]
 pub enum CheckFault {
     /// A rule, or a condition or gift of a class, names a field of another agent.
     OtherAgentInUpdate(u32),

@@ -14,7 +14,7 @@ use brace_model::Ty;
 use brace_names::{
     Classes, Field, Home, LoopField, Scope, comb_named, field_table, next, type_named,
 };
-use brace_num::{List, NoMemory};
+use brace_num::{Boxed, List, NoMemory};
 use brace_syntax::{ClassTree, ExprTree, GiftTree, Ident, MemberTree, StmtTree};
 use std::alloc::Global;
 
@@ -82,9 +82,9 @@ fn statement<'a>(
     ensures behind { OnOk result (scope.new ≡ behind (part s.now) scope.old) }
 {
     match s {
-        StmtTree::Const(ty, name, x, _) => constant(out, scope, type_named(ty), name, x),
+        StmtTree::Const(ty, name, x, _) => constant(out, scope, type_named(ty), name, x.get()),
         StmtTree::If(condition, statements, other, _) => {
-            value(out, scope, Some(Ty::Bool), condition)?;
+            value(out, scope, Some(Ty::Bool), condition.get())?;
             block(out, scope, statements)?;
             match other {
                 Some(statements) => block(out, scope, statements),
@@ -95,14 +95,20 @@ fn statement<'a>(
             each(out, scope, class, variable, statements, *at)
         }
         StmtTree::Assign(name, x) => {
-            said(out, scope, name.at, scope.field(name.text.as_bytes()), x)
+            said(
+                out,
+                scope,
+                name.at,
+                scope.field(name.text.as_bytes()),
+                x.get(),
+            )
         }
         StmtTree::AssignThis(name, x, at) => {
-            said(out, scope, *at, scope.field(name.text.as_bytes()), x)
+            said(out, scope, *at, scope.field(name.text.as_bytes()), x.get())
         }
         StmtTree::AssignLoop(variable, name, x) => {
             let found = scope.of_loop(variable.text.as_bytes(), name.text.as_bytes());
-            said_to_loop(out, scope, variable.at, found, x)
+            said_to_loop(out, scope, variable.at, found, x.get())
         }
     }
 }
@@ -187,12 +193,12 @@ fn rule(
     out: &mut Vec<CheckFault>,
     scope: &Scope,
     ty: Ty,
-    x: &Option<ExprTree>,
+    x: &Option<Boxed<ExprTree>>,
 ) -> Result<(), NoMemory>
     ensures { OnOk result (out.new.items ≡ out.old.items ++ rule ty x.now scope.now) }
 {
     match x {
-        Some(x) => value(out, scope, Some(ty), x),
+        Some(x) => value(out, scope, Some(ty), x.get()),
         None => Ok(()),
     }
 }
@@ -202,7 +208,7 @@ fn gift(out: &mut Vec<CheckFault>, scope: &Scope, one: &GiftTree) -> Result<(), 
 {
     let target = scope.field(one.state.text.as_bytes());
     give(out, one.state.at, target)?;
-    value(out, scope, given_type(target), &one.value)
+    value(out, scope, given_type(target), one.value.get())
 }
 
 // Notes what is found in gifts.
@@ -231,9 +237,9 @@ fn member_in<'a>(
         }
         MemberTree::Run(statements, _) => block(out, scope, statements),
         MemberTree::State(_, ty, _, x, _) => rule(out, scope, type_named(ty), x),
-        MemberTree::Die(condition, _) => value(out, scope, Some(Ty::Bool), condition),
+        MemberTree::Die(condition, _) => value(out, scope, Some(Ty::Bool), condition.get()),
         MemberTree::Spawn(condition, given, _) => {
-            value(out, scope, Some(Ty::Bool), condition)?;
+            value(out, scope, Some(Ty::Bool), condition.get())?;
             gifts(out, scope, given)
         }
     }
@@ -249,6 +255,22 @@ fn member<'a>(
 {
     let mut scope = Scope::of(alloc, home, one);
     member_in(out, &mut scope, one)
+}
+
+// Notes what is found in members.
+fn each_member<'a>(
+    alloc: Global,
+    out: &mut Vec<CheckFault>,
+    home: &Home<'_, 'a>,
+    members: &'a [MemberTree],
+) -> Result<(), NoMemory>
+    ensures { OnOk result (out.new.items ≡ out.old.items
+        ++ flat_map (member home.now) members.now) }
+{
+    for one in members {
+        member(alloc, out, home, one)?;
+    }
+    Ok(())
 }
 
 // Notes what is found in the class of a number.
@@ -268,10 +290,7 @@ fn class<'a>(
         number,
         own: &own,
     };
-    for tree in one.members.as_slice() {
-        member(alloc, out, &home, tree)?;
-    }
-    Ok(())
+    each_member(alloc, out, &home, one.members.as_slice())
 }
 
 // Notes what is found in classes.

@@ -1,9 +1,10 @@
 ghost use Rattle.std.specs.Prelude.{◌≡◌, not, ◌&&◌, OnOk, IfOk};
-ghost use Rattle.brace_model.specs.Typing.{is_sum};
+ghost use Rattle.brace_model.specs.Typing.{is_sum, unary_faults, binary_faults};
+ghost use Rattle.brace_model.specs.declared.program.Expr.TheVariants as expr;
 ghost use Rattle.brace_names.specs.Findings.{is_summed};
 ghost use Rattle.brace_check.specs.Meanings.{site, site_if, literal, number_of, named_as, loop_agent, agent_of, loop_number, expression};
 
-use brace_model::{Comb, Expr, Value, Who};
+use brace_model::{BinOp, Comb, Expr, UnOp, Value, Who};
 use brace_names::{
     Field, LoopField, Named, Scope, binary_faults, binary_named, is_sum, unary_faults, unary_named,
 };
@@ -106,7 +107,36 @@ pub fn loop_number(found: Option<LoopField>) -> u32
     number_of(found.map(|found| found.field))
 }
 
+// An operation at an offset on one operand.
+fn unary(sites: &mut Vec<u32>, op: UnOp, x: Boxed<Expr>, at: u32) -> Result<Expr, NoMemory>
+    ensures noted { OnOk result (sites.new.items
+        ≡ (site_if (unary_faults op) at sites.old.items).1) }
+    ensures meant { IfOk result (λ e. e
+        ≡ expr.Unary op (site_if (unary_faults op) at sites.old.items).0 x) }
+{
+    let site = site_if(sites, unary_faults(op), at)?;
+    Ok(Expr::Unary(op, site, x))
+}
+
+// An operation at an offset on two operands.
+fn binary(
+    sites: &mut Vec<u32>,
+    op: BinOp,
+    x: Boxed<Expr>,
+    y: Boxed<Expr>,
+    at: u32,
+) -> Result<Expr, NoMemory>
+    ensures noted { OnOk result (sites.new.items
+        ≡ (site_if (binary_faults op) at sites.old.items).1) }
+    ensures meant { IfOk result (λ e. e
+        ≡ expr.Binary op (site_if (binary_faults op) at sites.old.items).0 x y) }
+{
+    let site = site_if(sites, binary_faults(op), at)?;
+    Ok(Expr::Binary(op, site, x, y))
+}
+
 /// What an expression means. Its sites are noted in finishing order.
+#[cycle(expressions)]
 pub fn expression(
     alloc: Global,
     sites: &mut Vec<u32>,
@@ -133,27 +163,36 @@ pub fn expression(
             Ok(Expr::Field(agent_of(found), loop_number(found)))
         }
         ExprTree::Unary(op, x, at) => {
-            let op = unary_named(*op);
-            let x = expression(alloc, sites, scope, x.get())?;
-            let site = site_if(sites, unary_faults(op), *at)?;
-            Ok(Expr::Unary(op, site, Boxed::new(alloc, x)?))
+            let x = operand(alloc, sites, scope, x.get())?;
+            unary(sites, unary_named(*op), x, *at)
         }
         ExprTree::Binary(op, x, y, at) => {
-            let op = binary_named(*op);
-            let x = expression(alloc, sites, scope, x.get())?;
-            let y = expression(alloc, sites, scope, y.get())?;
-            let site = site_if(sites, binary_faults(op), *at)?;
-            let x = Boxed::new(alloc, x)?;
-            Ok(Expr::Binary(op, site, x, Boxed::new(alloc, y)?))
+            let x = operand(alloc, sites, scope, x.get())?;
+            let y = operand(alloc, sites, scope, y.get())?;
+            binary(sites, binary_named(*op), x, y, *at)
         }
         ExprTree::Choice(c, x, y, _) => {
-            let c = expression(alloc, sites, scope, c.get())?;
-            let x = expression(alloc, sites, scope, x.get())?;
-            let y = expression(alloc, sites, scope, y.get())?;
-            let c = Boxed::new(alloc, c)?;
-            let x = Boxed::new(alloc, x)?;
-            Ok(Expr::Choice(c, x, Boxed::new(alloc, y)?))
+            let c = operand(alloc, sites, scope, c.get())?;
+            let x = operand(alloc, sites, scope, x.get())?;
+            let y = operand(alloc, sites, scope, y.get())?;
+            Ok(Expr::Choice(c, x, y))
         }
         ExprTree::Rand(at) => Ok(Expr::Rand(site(sites, *at)?)),
     }
+}
+
+// What an expression means, in a box.
+#[cycle(expressions)]
+fn operand(
+    alloc: Global,
+    sites: &mut Vec<u32>,
+    scope: &Scope,
+    x: &ExprTree,
+) -> Result<Boxed<Expr>, NoMemory>
+    ensures noted { OnOk result (sites.new.items
+        ≡ (expression x.now scope.now sites.old.items).1) }
+    ensures meant { IfOk result (λ e. e
+        ≡ (expression x.now scope.now sites.old.items).0) }
+{
+    Boxed::new(alloc, expression(alloc, sites, scope, x)?)
 }

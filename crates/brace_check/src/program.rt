@@ -1,12 +1,12 @@
-ghost use Rattle.std.specs.Prelude.{◌≡◌, flat_map, slice_get, OnOk, IfOk};
+ghost use Rattle.std.specs.Prelude.{◌≡◌, ◌++◌, flat_map, slice_get, OnOk, IfOk};
 ghost use Rattle.brace_names.specs.Scopes.{home_of};
-ghost use Rattle.brace_check.specs.Programs.{effect_of, visible_of, reach_of, first_or_0, place_of, class_with, class_of, classes_from, program_with};
+ghost use Rattle.brace_check.specs.Programs.{effect_of, visible_of, reach_of, first_or_0, place_of, outline_of, filled, class_of, classes_from, program_with};
 
 use crate::finding::millionths;
 use crate::share::{Share, shares};
 use brace_model::{Class, Effect, Program, State};
-use brace_names::{Classes, Home, comb_named, field_table, type_named};
-use brace_num::{List, NoMemory};
+use brace_names::{Classes, Home, comb_named, field_table, next, type_named};
+use brace_num::{List, NoMemory, Text};
 use brace_syntax::{ClassTree, MemberTree};
 use std::alloc::Global;
 
@@ -73,25 +73,45 @@ fn first<T: Drop>(items: List<T>) -> Option<T>
     items.into_vec().into_iter().next()
 }
 
-// A class whose members have this together.
-fn class_with(alloc: Global, class: &ClassTree, all: Share) -> Result<Class, NoMemory>
-    ensures { IfOk result (λ c. c ≡ class_with class.now all) }
+/// What a class has that is not numbered over the whole script.
+#[derive(Drop)]
+pub struct Outline {
+    pub name: Text,
+    pub visible: i64,
+    pub reach: i64,
+    pub effects: List<Effect>,
+}
+
+fn outline_of(alloc: Global, class: &ClassTree) -> Result<Outline, NoMemory>
+    ensures { IfOk result (λ o. o ≡ outline_of class.now) }
 {
     let members = class.members.as_slice();
-    let x = place_of(b"x", all.states.as_slice())?;
-    let y = place_of(b"y", all.states.as_slice())?;
     let visible = visible(members)?;
     let reach = reach(members)?;
     let effects = effects(alloc, members)?;
     let name = class.name.text.copy(alloc)?;
-    Ok(Class {
+    Ok(Outline {
         name,
         visible,
         reach,
+        effects,
+    })
+}
+
+// A class of this outline, whose members have this together.
+fn filled(alloc: Global, outline: Outline, all: Share) -> Result<Class, NoMemory>
+    ensures { IfOk result (λ c. c ≡ filled outline all) }
+{
+    let x = place_of(b"x", all.states.as_slice())?;
+    let y = place_of(b"y", all.states.as_slice())?;
+    Ok(Class {
+        name: outline.name,
+        visible: outline.visible,
+        reach: outline.reach,
         x,
         y,
         states: all.states,
-        effects,
+        effects: outline.effects,
         query: first(all.queries).unwrap_or(List::new(alloc)),
         die: first(all.die),
         spawn: first(all.spawn),
@@ -109,8 +129,9 @@ fn class_in<'a>(
         ≡ (class_of home.now class.now sites.old.items).1) }
     ensures meant { IfOk result (λ c. c ≡ (class_of home.now class.now sites.old.items).0) }
 {
+    let outline = outline_of(alloc, class)?;
     let all = shares(alloc, sites, home, class)?;
-    class_with(alloc, class, all)
+    filled(alloc, outline, all)
 }
 
 // The class of a number. Its sites are noted in finishing order.
@@ -135,25 +156,25 @@ fn class_of<'a>(
     class_in(alloc, sites, &home, class)
 }
 
-// The classes of a script. Their sites are noted in finishing order.
-fn classes<'a>(
+// Adds the classes of a script. Their sites are noted in finishing order.
+fn add_classes<'a>(
     alloc: Global,
     sites: &mut Vec<u32>,
+    all: &mut List<Class>,
     known: &Classes<'a>,
     trees: &'a [ClassTree],
-) -> Result<List<Class>, NoMemory>
+) -> Result<(), NoMemory>
     ensures noted { OnOk result (sites.new.items
         ≡ (classes_from known.now 0 trees.now sites.old.items).1) }
-    ensures meant { IfOk result (λ c. c
-        ≡ (classes_from known.now 0 trees.now sites.old.items).0) }
+    ensures meant { OnOk result (all.new
+        ≡ all.old ++ (classes_from known.now 0 trees.now sites.old.items).0) }
 {
-    let mut all = List::new(alloc);
     let mut number = 0;
     for class in trees {
         all.push(class_of(alloc, sites, known, number, class)?)?;
-        number = number.checked_add(1).ok_or(NoMemory)?;
+        number = next(number)?;
     }
-    Ok(all)
+    Ok(())
 }
 
 /// The program of the classes of a script, which declares what is known.
@@ -165,7 +186,8 @@ pub fn program<'a>(
     ensures { IfOk result (λ p. p ≡ program_with (classes_from known.now 0 trees.now)) }
 {
     let mut sites = Vec::new(alloc);
-    let classes = classes(alloc, &mut sites, known, trees)?;
+    let mut classes = List::new(alloc);
+    add_classes(alloc, &mut sites, &mut classes, known, trees)?;
     Ok(Program {
         classes,
         sites: List::from_vec(sites),

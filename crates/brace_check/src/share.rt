@@ -1,4 +1,5 @@
 ghost use Rattle.std.specs.Prelude.{◌≡◌, map, OnOk, IfOk};
+ghost use Rattle.brace_names.specs.Kinds.{type_named};
 ghost use Rattle.brace_names.specs.Scopes.{Home, outermost, is_query};
 ghost use Rattle.brace_check.specs.Programs.{rule, gifts_in, spawn_of, no_share, share, shared_by, shares};
 
@@ -6,8 +7,8 @@ use crate::meaning::{expression, number_of, site};
 use crate::statement::block;
 use brace_model::{Expr, Gift, Spawn, State, Stmt};
 use brace_names::{Home, Scope, type_named};
-use brace_num::{List, NoMemory};
-use brace_syntax::{ClassTree, ExprTree, GiftTree, MemberTree};
+use brace_num::{Boxed, List, NoMemory};
+use brace_syntax::{ClassTree, ExprTree, GiftTree, Ident, MemberTree, TyName};
 use std::alloc::Global;
 
 /// What the members of a class have of what is numbered over the whole script.
@@ -23,16 +24,45 @@ fn rule(
     alloc: Global,
     sites: &mut Vec<u32>,
     scope: &Scope,
-    x: &Option<ExprTree>,
+    x: &Option<Boxed<ExprTree>>,
 ) -> Result<Option<Expr>, NoMemory>
     ensures noted { OnOk result (sites.new.items
         ≡ (rule x.now scope.now sites.old.items).1) }
     ensures meant { IfOk result (λ r. r ≡ (rule x.now scope.now sites.old.items).0) }
 {
     match x {
-        Some(x) => Ok(Some(expression(alloc, sites, scope, x)?)),
+        Some(x) => Ok(Some(expression(alloc, sites, scope, x.get())?)),
         None => Ok(None),
     }
+}
+
+// A state.
+fn state(
+    alloc: Global,
+    sites: &mut Vec<u32>,
+    scope: &Scope,
+    shared: bool,
+    ty: &TyName,
+    name: &Ident,
+    x: &Option<Boxed<ExprTree>>,
+) -> Result<State, NoMemory>
+    ensures noted { OnOk result (sites.new.items
+        ≡ (rule x.now scope.now sites.old.items).1) }
+    ensures meant { IfOk result (λ s. s ≡ record {
+      name = name.now.text;
+      ty = type_named ty.now;
+      shared = shared;
+      rule = (rule x.now scope.now sites.old.items).0;
+    }) }
+{
+    let name = name.text.copy(alloc)?;
+    let rule = rule(alloc, sites, scope, x)?;
+    Ok(State {
+        name,
+        ty: type_named(ty),
+        shared,
+        rule,
+    })
 }
 
 // What the gifts of a `spawn` mean.
@@ -50,7 +80,7 @@ fn gifts(
     let mut gifts = List::new(alloc);
     for one in given.as_slice() {
         let state = number_of(scope.field(one.state.text.as_bytes()));
-        let value = expression(alloc, sites, scope, &one.value)?;
+        let value = expression(alloc, sites, scope, one.value.get())?;
         gifts.push(Gift { state, value })?;
     }
     Ok(gifts)
@@ -91,24 +121,19 @@ fn add_in<'a>(
 {
     match one {
         MemberTree::State(shared, ty, name, x, _) => {
-            let rule = rule(alloc, sites, scope, x)?;
-            all.states.push(State {
-                name: name.text.copy(alloc)?,
-                ty: type_named(ty),
-                shared: *shared,
-                rule,
-            })
+            let state = state(alloc, sites, scope, *shared, ty, name, x)?;
+            all.states.push(state)
         }
         MemberTree::Run(statements, _) => {
             let query = block(alloc, sites, scope, statements)?;
             all.queries.push(query)
         }
         MemberTree::Die(condition, _) => {
-            let condition = expression(alloc, sites, scope, condition)?;
+            let condition = expression(alloc, sites, scope, condition.get())?;
             all.die.push(condition)
         }
         MemberTree::Spawn(condition, given, at) => {
-            let spawn = spawn(alloc, sites, scope, condition, given, *at)?;
+            let spawn = spawn(alloc, sites, scope, condition.get(), given, *at)?;
             all.spawn.push(spawn)
         }
         MemberTree::Visible(_, _) | MemberTree::Reach(_, _) => Ok(()),

@@ -117,10 +117,10 @@ fn statement<'a>(
 {
     match s {
         StmtTree::Const(ty, name, x, _) => {
-            constant(alloc, sites, scope, type_named(ty), name, x)
+            constant(alloc, sites, scope, type_named(ty), name, x.get())
         }
         StmtTree::If(condition, statements, other, _) => {
-            let condition = expression(alloc, sites, scope, condition)?;
+            let condition = expression(alloc, sites, scope, condition.get())?;
             let statements = block(alloc, sites, scope, statements)?;
             let other = match other {
                 Some(other) => block(alloc, sites, scope, other)?,
@@ -131,11 +131,11 @@ fn statement<'a>(
         StmtTree::Foreach(class, variable, _, statements, at) => {
             each(alloc, sites, scope, class, variable, statements, *at)
         }
-        StmtTree::Assign(name, x) => said(alloc, sites, scope, name.at, name, x),
-        StmtTree::AssignThis(name, x, at) => said(alloc, sites, scope, *at, name, x),
+        StmtTree::Assign(name, x) => said(alloc, sites, scope, name.at, name, x.get()),
+        StmtTree::AssignThis(name, x, at) => said(alloc, sites, scope, *at, name, x.get()),
         StmtTree::AssignLoop(variable, name, x) => {
             let found = scope.of_loop(variable.text.as_bytes(), name.text.as_bytes());
-            said_to_loop(alloc, sites, scope, variable.at, found, x)
+            said_to_loop(alloc, sites, scope, variable.at, found, x.get())
         }
     }
 }

@@ -17,7 +17,7 @@ use crate::place::{assign, fault, site, type_name};
 use crate::scope::{Home, Scope};
 use crate::stmt::block;
 use crate::word::{Word, repeats};
-use brace_num::{List, NoMemory};
+use brace_num::{Boxed, List, NoMemory};
 use brace_syntax::{ClassTree, ExprTree, GiftTree, MemberTree, Tree};
 use std::alloc::Global;
 
@@ -41,11 +41,11 @@ fn duplicates(alloc: Global, out: &mut Vec<Finding>, words: &[Word]) -> Result<(
     again(out, places.as_slice())
 }
 
-fn rule(out: &mut Vec<Finding>, scope: &Scope, x: &Option<ExprTree>) -> Result<(), NoMemory>
+fn rule(out: &mut Vec<Finding>, scope: &Scope, x: &Option<Boxed<ExprTree>>) -> Result<(), NoMemory>
     ensures { OnOk result (out.new.items ≡ out.old.items ++ rule x.now scope.now) }
 {
     match x {
-        Some(x) => expression(out, scope, x),
+        Some(x) => expression(out, scope, x.get()),
         None => Ok(()),
     }
 }
@@ -85,7 +85,7 @@ fn gift(out: &mut Vec<Finding>, scope: &Scope, one: &GiftTree) -> Result<(), NoM
     ensures { OnOk result (out.new.items ≡ out.old.items ++ gift scope.now one.now) }
 {
     assign(out, scope, one.state.at, &one.state)?;
-    expression(out, scope, &one.value)
+    expression(out, scope, one.value.get())
 }
 
 // The gifts of a `spawn` at an offset, and the site that it is.
@@ -123,9 +123,9 @@ fn member_in<'a>(
         }
         MemberTree::Effect(_, ty, _, _, _) => type_name(out, ty),
         MemberTree::Run(statements, _) => block(out, scope, statements),
-        MemberTree::Die(condition, _) => expression(out, scope, condition),
+        MemberTree::Die(condition, _) => expression(out, scope, condition.get()),
         MemberTree::Spawn(condition, given, at) => {
-            expression(out, scope, condition)?;
+            expression(out, scope, condition.get())?;
             gifts(alloc, out, scope, given, *at)
         }
     }

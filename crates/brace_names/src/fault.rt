@@ -14,7 +14,7 @@ pub enum Which {
 }
 
 /// What is wrong with the names of a script, and the offset at which it is found.
-#[derive(Debug, Clone, Copy, PartialEq, Eq, Drop)]
+#[derive(Debug, Clone, Copy, Drop)]
 pub enum NameFault {
     /// An earlier class has the name of the class.
     DuplicateClass(u32),

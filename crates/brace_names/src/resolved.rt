@@ -2,7 +2,7 @@ use brace_num::List;
 use brace_syntax::Tree;
 
 /// What a name stands for.
-#[derive(Debug, Clone, Copy, PartialEq, Eq, Drop)]
+#[derive(Debug, Clone, Copy, Drop)]
 pub enum Target {
     /// The class of this number in the script, counted from 0.
     Class(u32),
@@ -17,7 +17,7 @@ pub enum Target {
 }
 
 /// What the name at an offset stands for.
-#[derive(Debug, Clone, Copy, PartialEq, Eq, Drop)]
+#[derive(Clone, Copy, Drop)]
 pub struct Binding {
     pub at: u32,
     pub target: Target,
@@ -26,7 +26,7 @@ pub struct Binding {
 /// A script and what its names stand for, by rising offset: the two classes of a `foreach`, a field
 /// or constant in an expression, both names of `q.n` in a query, and the names of an assignment's
 /// target or a gift's. A `q.n` outside a query has none.
-#[derive(Debug, Drop)]
+#[derive(Drop)]
 pub struct Resolved {
     pub tree: Tree,
     pub bindings: List<Binding>,

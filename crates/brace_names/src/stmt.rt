@@ -57,9 +57,9 @@ fn statement<'a>(
     ensures behind { OnOk result (scope.new ≡ behind (part s.now) scope.old) }
 {
     match s {
-        StmtTree::Const(ty, name, x, _) => constant(out, scope, ty, name, x),
+        StmtTree::Const(ty, name, x, _) => constant(out, scope, ty, name, x.get()),
         StmtTree::If(condition, statements, other, _) => {
-            expression(out, scope, condition)?;
+            expression(out, scope, condition.get())?;
             block(out, scope, statements)?;
             match other {
                 Some(statements) => block(out, scope, statements),
@@ -69,11 +69,11 @@ fn statement<'a>(
         StmtTree::Foreach(class, variable, other, statements, _) => {
             each(out, scope, class, variable, other, statements)
         }
-        StmtTree::Assign(name, x) => assigned(out, scope, name.at, name, x),
-        StmtTree::AssignThis(name, x, at) => assigned(out, scope, *at, name, x),
+        StmtTree::Assign(name, x) => assigned(out, scope, name.at, name, x.get()),
+        StmtTree::AssignThis(name, x, at) => assigned(out, scope, *at, name, x.get()),
         StmtTree::AssignLoop(variable, name, x) => {
             assign_of_loop(out, scope, variable, name)?;
-            expression(out, scope, x)
+            expression(out, scope, x.get())
         }
     }
 }

@@ -7,7 +7,7 @@ use crate::literal::append_literal;
 use crate::stmt::{
     append_assignment, append_block, append_declared, append_expression, append_line, append_value,
 };
-use brace_num::{List, NoMemory};
+use brace_num::{Boxed, List, NoMemory};
 use brace_syntax::{
     ClassTree, CombName, Digits, ExprTree, GiftTree, Ident, MemberTree, StmtTree, TyName,
 };
@@ -44,14 +44,14 @@ fn append_directive(out: &mut Vec<u8>, name: &[u8], digits: Digits) -> Result<()
 }
 
 // Appends the rule of a state, where it has one.
-fn append_rule(out: &mut Vec<u8>, x: &Option<ExprTree>) -> Result<(), NoMemory>
+fn append_rule(out: &mut Vec<u8>, x: &Option<Boxed<ExprTree>>) -> Result<(), NoMemory>
     ensures printed { OnOk result (out.new.items ≡ out.old.items ++ rule x.now) }
 {
     match x {
         None => Ok(()),
         Some(x) => {
             out.extend_from_slice(b" : ")?;
-            append_expression(out, x)
+            append_expression(out, x.get())
         }
     }
 }
@@ -72,7 +72,7 @@ fn append_state(
     shared: bool,
     ty: &TyName,
     name: &Ident,
-    x: &Option<ExprTree>,
+    x: &Option<Boxed<ExprTree>>,
 ) -> Result<(), NoMemory>
     ensures printed { OnOk result (out.new.items ≡ out.old.items ++
         line (deeper []) (sharing shared ++ codes " state " ++ type_text ty.now ++ codes " " ++
@@ -163,7 +163,7 @@ fn append_gifts(out: &mut Vec<u8>, gifts: &List<GiftTree>) -> Result<(), NoMemor
         ++ flat_map (gift_text (deeper (deeper []))) gifts.now) }
 {
     for gift in gifts.as_slice() {
-        append_assignment(out, b"    ", &gift.state, &gift.value)?;
+        append_assignment(out, b"    ", &gift.state, gift.value.get())?;
     }
     Ok(())
 }
@@ -190,8 +190,8 @@ fn append_member(alloc: Global, out: &mut Vec<u8>, member: &MemberTree) -> Resul
             append_effect(out, *shared, ty, name, *comb)
         }
         MemberTree::Run(statements, _) => append_run(alloc, out, statements),
-        MemberTree::Die(x, _) => append_die(out, x),
-        MemberTree::Spawn(x, gifts, _) => append_spawn(out, x, gifts),
+        MemberTree::Die(x, _) => append_die(out, x.get()),
+        MemberTree::Spawn(x, gifts, _) => append_spawn(out, x.get(), gifts),
     }
 }
 

@@ -165,9 +165,15 @@ fn append_statement(out: &mut Vec<u8>, margin: &mut Vec<u8>, s: &StmtTree) -> Re
     ensures margin { OnOk result (margin.new.items ≡ margin.old.items) }
 {
     match s {
-        StmtTree::Const(ty, name, x, _) => append_constant(out, margin.as_slice(), ty, name, x),
+        StmtTree::Const(ty, name, x, _) => append_constant(
+            out,
+            margin.as_slice(),
+            ty,
+            name,
+            x.get(),
+        ),
         StmtTree::If(x, statements, other, _) => {
-            append_condition(out, margin.as_slice(), x)?;
+            append_condition(out, margin.as_slice(), x.get())?;
             append_block(out, margin, statements)?;
             if let Some(statements) = other {
                 append_line(out, margin.as_slice(), b"} else {")?;
@@ -180,12 +186,18 @@ fn append_statement(out: &mut Vec<u8>, margin: &mut Vec<u8>, s: &StmtTree) -> Re
             append_block(out, margin, statements)?;
             append_line(out, margin.as_slice(), b"}")
         }
-        StmtTree::Assign(name, x) => append_assignment(out, margin.as_slice(), name, x),
+        StmtTree::Assign(name, x) => append_assignment(out, margin.as_slice(), name, x.get()),
         StmtTree::AssignThis(name, x, _) => {
-            append_assignment_of(out, margin.as_slice(), b"this", name, x)
+            append_assignment_of(out, margin.as_slice(), b"this", name, x.get())
         }
         StmtTree::AssignLoop(variable, name, x) => {
-            append_assignment_of(out, margin.as_slice(), variable.text.as_bytes(), name, x)
+            append_assignment_of(
+                out,
+                margin.as_slice(),
+                variable.text.as_bytes(),
+                name,
+                x.get(),
+            )
         }
     }
 }

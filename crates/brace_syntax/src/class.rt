@@ -10,7 +10,7 @@ use crate::mark::Mark;
 use crate::stmt::{assigned, block};
 use crate::tokens::Tokens;
 use crate::tree::{ClassTree, ExprTree, GiftTree, MemberTree, Number, Tree};
-use brace_num::List;
+use brace_num::{Boxed, List};
 use brace_tok::TokKind;
 use std::alloc::Global;
 
@@ -44,7 +44,7 @@ fn reach(tokens: &mut Tokens<'_>) -> Result<MemberTree, Stop>
 }
 
 #[tactic(auto, unfolding(crate::specs::inner::Descent::ruled))]
-fn ruled(alloc: Global, tokens: &mut Tokens<'_>) -> Result<Option<ExprTree>, Stop>
+fn ruled(alloc: Global, tokens: &mut Tokens<'_>) -> Result<Option<Boxed<ExprTree>>, Stop>
     ensures { Follows (spec.ruled tokens.old) result tokens.new }
 {
     if tokens.eat(Mark::Colon) {

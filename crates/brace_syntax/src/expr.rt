@@ -32,77 +32,68 @@ fn turns(level: Level, left: usize) -> usize
     }
 }
 
-fn unary(alloc: Global, name: UnName, x: ExprTree, at: u32) -> Result<ExprTree, NoMemory>
+fn unary(
+    alloc: Global,
+    name: UnName,
+    x: Boxed<ExprTree>,
+    at: u32,
+) -> Result<Boxed<ExprTree>, NoMemory>
     ensures { IfOk result (λ tree. tree ≡ e.Unary name x at) }
 {
-    Ok(ExprTree::Unary(name, Boxed::new(alloc, x)?, at))
+    Boxed::new(alloc, ExprTree::Unary(name, x, at))
 }
 
 fn binary(
     alloc: Global,
     name: BinName,
-    x: ExprTree,
-    y: ExprTree,
+    x: Boxed<ExprTree>,
+    y: Boxed<ExprTree>,
     at: u32,
-) -> Result<ExprTree, NoMemory>
+) -> Result<Boxed<ExprTree>, NoMemory>
     ensures { IfOk result (λ tree. tree ≡ e.Binary name x y at) }
 {
-    let x = Boxed::new(alloc, x)?;
-    let y = Boxed::new(alloc, y)?;
-    Ok(ExprTree::Binary(name, x, y, at))
-}
-
-fn choice(
-    alloc: Global,
-    w: ExprTree,
-    x: ExprTree,
-    y: ExprTree,
-    at: u32,
-) -> Result<ExprTree, NoMemory>
-    ensures { IfOk result (λ tree. tree ≡ e.Choice w x y at) }
-{
-    let w = Boxed::new(alloc, w)?;
-    let x = Boxed::new(alloc, x)?;
-    let y = Boxed::new(alloc, y)?;
-    Ok(ExprTree::Choice(w, x, y, at))
+    Boxed::new(alloc, ExprTree::Binary(name, x, y, at))
 }
 
 #[tactic(auto, unfolding(crate::specs::inner::Descent::of_this))]
-fn of_this(alloc: Global, tokens: &mut Tokens<'_>) -> Result<ExprTree, Stop>
+fn of_this(alloc: Global, tokens: &mut Tokens<'_>) -> Result<Boxed<ExprTree>, Stop>
     ensures { Follows (spec.of_this tokens.old) result tokens.new }
 {
     let at = tokens.pass();
     tokens.expect(Mark::Dot)?;
-    Ok(ExprTree::OfThis(tokens.name(alloc)?, at))
+    let name = tokens.name(alloc)?;
+    Ok(Boxed::new(alloc, ExprTree::OfThis(name, at))?)
 }
 
 #[tactic(auto, unfolding(crate::specs::inner::Descent::named))]
-fn named(alloc: Global, tokens: &mut Tokens<'_>) -> Result<ExprTree, Stop>
+fn named(alloc: Global, tokens: &mut Tokens<'_>) -> Result<Boxed<ExprTree>, Stop>
     ensures { Follows (spec.named tokens.old) result tokens.new }
 {
     let first = tokens.name(alloc)?;
     if tokens.eat(Mark::Dot) {
-        Ok(ExprTree::OfLoop(first, tokens.name(alloc)?))
+        let second = tokens.name(alloc)?;
+        Ok(Boxed::new(alloc, ExprTree::OfLoop(first, second))?)
     } else {
-        Ok(ExprTree::Name(first))
+        Ok(Boxed::new(alloc, ExprTree::Name(first))?)
     }
 }
 
 #[tactic(auto, unfolding(crate::specs::inner::Descent::literal))]
-fn literal(tokens: &mut Tokens<'_>) -> Result<ExprTree, Stop>
+fn literal(alloc: Global, tokens: &mut Tokens<'_>) -> Result<Boxed<ExprTree>, Stop>
     ensures { Follows (spec.literal tokens.old) result tokens.new }
 {
-    Ok(ExprTree::Lit(tokens.number()?))
+    let number = tokens.number()?;
+    Ok(Boxed::new(alloc, ExprTree::Lit(number))?)
 }
 
 #[tactic(auto, unfolding(crate::specs::inner::Descent::random))]
-fn random(tokens: &mut Tokens<'_>) -> Result<ExprTree, Stop>
+fn random(alloc: Global, tokens: &mut Tokens<'_>) -> Result<Boxed<ExprTree>, Stop>
     ensures { Follows (spec.random tokens.old) result tokens.new }
 {
     let at = tokens.pass();
     tokens.expect(Mark::OpenParen)?;
     tokens.expect(Mark::CloseParen)?;
-    Ok(ExprTree::Rand(at))
+    Ok(Boxed::new(alloc, ExprTree::Rand(at))?)
 }
 
 /// The rows of expressions. The rows that lead back to the first are given a function for that, so
@@ -115,8 +106,8 @@ pub struct Exprs<F> {
     pub expr: F,
 }
 
-impl<F: Fn(Global, &mut Tokens<'_>, usize, Start) -> Result<ExprTree, Stop>> Exprs<F> {
-    fn nested(&self, tokens: &mut Tokens<'_>, start: Start) -> Result<ExprTree, Stop>
+impl<F: Fn(Global, &mut Tokens<'_>, usize, Start) -> Result<Boxed<ExprTree>, Stop>> Exprs<F> {
+    fn nested(&self, tokens: &mut Tokens<'_>, start: Start) -> Result<Boxed<ExprTree>, Stop>
         requires { Nests self.now.depth (F.pre self.now.expr) (F.post self.now.expr) }
         ensures { Follows (spec.expr self.now.depth start tokens.old) result tokens.new }
     {
@@ -124,7 +115,7 @@ impl<F: Fn(Global, &mut Tokens<'_>, usize, Start) -> Result<ExprTree, Stop>> Exp
     }
 
     #[tactic(auto, unfolding(crate::specs::inner::Descent::one_argument))]
-    fn one_argument(&self, tokens: &mut Tokens<'_>, name: UnName) -> Result<ExprTree, Stop>
+    fn one_argument(&self, tokens: &mut Tokens<'_>, name: UnName) -> Result<Boxed<ExprTree>, Stop>
         requires { Nests self.now.depth (F.pre self.now.expr) (F.post self.now.expr) }
         ensures { Follows (spec.one_argument (spec.expr self.now.depth) name tokens.old)
             result tokens.new }
@@ -137,7 +128,7 @@ impl<F: Fn(Global, &mut Tokens<'_>, usize, Start) -> Result<ExprTree, Stop>> Exp
     }
 
     #[tactic(auto, unfolding(crate::specs::inner::Descent::two_arguments))]
-    fn two_arguments(&self, tokens: &mut Tokens<'_>, name: BinName) -> Result<ExprTree, Stop>
+    fn two_arguments(&self, tokens: &mut Tokens<'_>, name: BinName) -> Result<Boxed<ExprTree>, Stop>
         requires { Nests self.now.depth (F.pre self.now.expr) (F.post self.now.expr) }
         ensures { Follows (spec.two_arguments (spec.expr self.now.depth) name tokens.old)
             result tokens.new }
@@ -152,7 +143,7 @@ impl<F: Fn(Global, &mut Tokens<'_>, usize, Start) -> Result<ExprTree, Stop>> Exp
     }
 
     #[tactic(auto, unfolding(crate::specs::inner::Descent::enclosed))]
-    fn enclosed(&self, tokens: &mut Tokens<'_>) -> Result<ExprTree, Stop>
+    fn enclosed(&self, tokens: &mut Tokens<'_>) -> Result<Boxed<ExprTree>, Stop>
         requires { Nests self.now.depth (F.pre self.now.expr) (F.post self.now.expr) }
         ensures { Follows (spec.enclosed (spec.expr self.now.depth) tokens.old) result tokens.new }
     {
@@ -163,13 +154,13 @@ impl<F: Fn(Global, &mut Tokens<'_>, usize, Start) -> Result<ExprTree, Stop>> Exp
     }
 
     #[tactic(auto, unfolding(crate::specs::inner::Descent::primary))]
-    fn primary(&self, tokens: &mut Tokens<'_>) -> Result<ExprTree, Stop>
+    fn primary(&self, tokens: &mut Tokens<'_>) -> Result<Boxed<ExprTree>, Stop>
         requires { Nests self.now.depth (F.pre self.now.expr) (F.post self.now.expr) }
         ensures { Follows (spec.primary (spec.expr self.now.depth) tokens.old) result tokens.new }
     {
         match tokens.peek() {
-            Some(TokKind::KwTrue) => Ok(ExprTree::True(tokens.pass())),
-            Some(TokKind::KwFalse) => Ok(ExprTree::False(tokens.pass())),
+            Some(TokKind::KwTrue) => Ok(Boxed::new(self.alloc, ExprTree::True(tokens.pass()))?),
+            Some(TokKind::KwFalse) => Ok(Boxed::new(self.alloc, ExprTree::False(tokens.pass()))?),
             Some(TokKind::OpenParen) => self.enclosed(tokens),
             Some(TokKind::KwThis) => of_this(self.alloc, tokens),
             Some(TokKind::Word) => named(self.alloc, tokens),
@@ -179,13 +170,13 @@ impl<F: Fn(Global, &mut Tokens<'_>, usize, Start) -> Result<ExprTree, Stop>> Exp
             Some(TokKind::KwTrunc) => self.one_argument(tokens, UnName::Trunc),
             Some(TokKind::KwMin) => self.two_arguments(tokens, BinName::Min),
             Some(TokKind::KwMax) => self.two_arguments(tokens, BinName::Max),
-            Some(TokKind::KwRand) => random(tokens),
-            _ => literal(tokens),
+            Some(TokKind::KwRand) => random(self.alloc, tokens),
+            _ => literal(self.alloc, tokens),
         }
     }
 
     #[tactic(auto, unfolding(crate::specs::inner::Descent::prefixed))]
-    fn prefixed(&self, tokens: &mut Tokens<'_>) -> Result<ExprTree, Stop>
+    fn prefixed(&self, tokens: &mut Tokens<'_>) -> Result<Boxed<ExprTree>, Stop>
         requires { Nests self.now.depth (F.pre self.now.expr) (F.post self.now.expr) }
         ensures { Follows (spec.prefixed (spec.expr self.now.depth) tokens.old) result tokens.new }
     {
@@ -200,7 +191,7 @@ impl<F: Fn(Global, &mut Tokens<'_>, usize, Start) -> Result<ExprTree, Stop>> Exp
     /// What a level joins: the rows of the next tighter one.
     #[cycle(levels)]
     #[inline(always)]
-    fn operand(&self, tokens: &mut Tokens<'_>, level: Level) -> Result<ExprTree, Stop>
+    fn operand(&self, tokens: &mut Tokens<'_>, level: Level) -> Result<Boxed<ExprTree>, Stop>
         requires { Nests self.now.depth (F.pre self.now.expr) (F.post self.now.expr) }
         ensures { Follows (spec.operand (spec.expr self.now.depth) level tokens.old)
             result tokens.new }
@@ -217,7 +208,7 @@ impl<F: Fn(Global, &mut Tokens<'_>, usize, Start) -> Result<ExprTree, Stop>> Exp
     /// Operands of a level and what stands between them, grouped to the left.
     #[cycle(levels)]
     #[tactic(auto, unfolding(crate::specs::inner::Descent::climb))]
-    fn joined(&self, tokens: &mut Tokens<'_>, level: Level) -> Result<ExprTree, Stop>
+    fn joined(&self, tokens: &mut Tokens<'_>, level: Level) -> Result<Boxed<ExprTree>, Stop>
         requires { Nests self.now.depth (F.pre self.now.expr) (F.post self.now.expr) }
         ensures { Follows (spec.joined (spec.expr self.now.depth) level tokens.old)
             result tokens.new }
@@ -235,7 +226,7 @@ impl<F: Fn(Global, &mut Tokens<'_>, usize, Start) -> Result<ExprTree, Stop>> Exp
     }
 
     #[tactic(auto, unfolding(crate::specs::inner::Descent::choice))]
-    fn choice(&self, tokens: &mut Tokens<'_>) -> Result<ExprTree, Stop>
+    fn choice(&self, tokens: &mut Tokens<'_>) -> Result<Boxed<ExprTree>, Stop>
         requires { Nests self.now.depth (F.pre self.now.expr) (F.post self.now.expr) }
         ensures { Follows (spec.choice (spec.expr self.now.depth) tokens.old) result tokens.new }
     {
@@ -247,10 +238,10 @@ impl<F: Fn(Global, &mut Tokens<'_>, usize, Start) -> Result<ExprTree, Stop>> Exp
         let x = self.nested(tokens, Start::Whole)?;
         tokens.expect(Mark::Colon)?;
         let y = self.nested(tokens, Start::Whole)?;
-        Ok(choice(self.alloc, w, x, y, at)?)
+        Ok(Boxed::new(self.alloc, ExprTree::Choice(w, x, y, at))?)
     }
 
-    fn begun(&self, tokens: &mut Tokens<'_>, start: Start) -> Result<ExprTree, Stop>
+    fn begun(&self, tokens: &mut Tokens<'_>, start: Start) -> Result<Boxed<ExprTree>, Stop>
         requires { Nests self.now.depth (F.pre self.now.expr) (F.post self.now.expr) }
         ensures { Follows (spec.begun (spec.expr self.now.depth) start tokens.old)
             result tokens.new }
@@ -268,7 +259,7 @@ pub fn expr(
     tokens: &mut Tokens<'_>,
     depth: usize,
     start: Start,
-) -> Result<ExprTree, Stop>
+) -> Result<Boxed<ExprTree>, Stop>
     ensures { Follows (spec.expr depth start tokens.old) result tokens.new }
 {
     if depth == 0 {
@@ -284,7 +275,7 @@ pub fn expr(
 
 /// An expression. Each nested expression has fewer tokens, so their count is deep enough.
 #[tactic(auto, unfolding(crate::specs::inner::Descent::expression))]
-pub fn expression(alloc: Global, tokens: &mut Tokens<'_>) -> Result<ExprTree, Stop>
+pub fn expression(alloc: Global, tokens: &mut Tokens<'_>) -> Result<Boxed<ExprTree>, Stop>
     ensures { Follows (spec.expression tokens.old) result tokens.new }
 {
     let depth = tokens.left();

@@ -10,7 +10,7 @@ use crate::fault::Stop;
 use crate::mark::Mark;
 use crate::tokens::Tokens;
 use crate::tree::{ExprTree, Ident, StmtTree};
-use brace_num::List;
+use brace_num::{Boxed, List};
 use brace_tok::TokKind;
 use std::alloc::Global;
 
@@ -25,7 +25,7 @@ pub struct Heading {
 
 /// A value behind an arrow, up to the semicolon.
 #[tactic(auto, unfolding(crate::specs::inner::Descent::assigned))]
-pub fn assigned(alloc: Global, tokens: &mut Tokens<'_>) -> Result<ExprTree, Stop>
+pub fn assigned(alloc: Global, tokens: &mut Tokens<'_>) -> Result<Boxed<ExprTree>, Stop>
     ensures { Follows (spec.assigned tokens.old) result tokens.new }
 {
     tokens.expect(Mark::Arrow)?;
@@ -74,7 +74,7 @@ fn assign(alloc: Global, tokens: &mut Tokens<'_>) -> Result<StmtTree, Stop>
 }
 
 #[tactic(auto, unfolding(crate::specs::inner::Descent::condition))]
-fn condition(alloc: Global, tokens: &mut Tokens<'_>) -> Result<ExprTree, Stop>
+fn condition(alloc: Global, tokens: &mut Tokens<'_>) -> Result<Boxed<ExprTree>, Stop>
     ensures { Follows (spec.condition tokens.old) result tokens.new }
 {
     tokens.expect(Mark::OpenParen)?;

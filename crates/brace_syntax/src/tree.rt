@@ -95,23 +95,23 @@ pub enum ExprTree {
 /// first name.
 #[derive(Debug, Drop)]
 pub enum StmtTree {
-    Const(TyName, Ident, ExprTree, u32),
+    Const(TyName, Ident, Boxed<ExprTree>, u32),
     /// The condition, the block, and the block of `else` where one is written.
-    If(ExprTree, List<StmtTree>, Option<List<StmtTree>>, u32),
+    If(Boxed<ExprTree>, List<StmtTree>, Option<List<StmtTree>>, u32),
     /// The class, the variable, the second class and the block.
     Foreach(Ident, Ident, Ident, List<StmtTree>, u32),
-    Assign(Ident, ExprTree),
+    Assign(Ident, Boxed<ExprTree>),
     /// `this.n <- e`.
-    AssignThis(Ident, ExprTree, u32),
+    AssignThis(Ident, Boxed<ExprTree>, u32),
     /// `q.n <- e`: the names `q` and `n`.
-    AssignLoop(Ident, Ident, ExprTree),
+    AssignLoop(Ident, Ident, Boxed<ExprTree>),
 }
 
 /// What a child gets: a state's name and the value that it begins with.
 #[derive(Debug, Drop)]
 pub struct GiftTree {
     pub state: Ident,
-    pub value: ExprTree,
+    pub value: Boxed<ExprTree>,
 }
 
 /// A member of a class. A `u32` is the offset of its first token; a `bool` is true for `public`.
@@ -119,13 +119,13 @@ pub struct GiftTree {
 pub enum MemberTree {
     Visible(Number, u32),
     Reach(Number, u32),
-    State(bool, TyName, Ident, Option<ExprTree>, u32),
+    State(bool, TyName, Ident, Option<Boxed<ExprTree>>, u32),
     Effect(bool, TyName, Ident, CombName, u32),
     Run(List<StmtTree>, u32),
     /// `die when e;`.
-    Die(ExprTree, u32),
+    Die(Boxed<ExprTree>, u32),
     /// `spawn when e { .. }`: the condition and the gifts as they are written.
-    Spawn(ExprTree, List<GiftTree>, u32),
+    Spawn(Boxed<ExprTree>, List<GiftTree>, u32),
 }
 
 /// A class: its name, its members as they are written, and the offset of its first token.

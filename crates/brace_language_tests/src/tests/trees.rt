@@ -11,14 +11,14 @@ const SENDS: &str =
 const SENDS_TREE: &str =
     "Tree { classes: List { items: [ClassTree { name: Ident { text: Text { string: \"P\" }, at: 6 \
      }, members: List { items: [Reach(Number { digits: Fixed(2000000), at: 15 }, 8), State(true, \
-     Fixed, Ident { text: Text { string: \"x\" }, at: 39 }, Some(Binary(Add, Boxed { inner: \
-     Name(Ident { text: Text { string: \"x\" }, at: 41 }) }, Boxed { inner: Lit(Number { digits: \
-     Fixed(1500000), at: 43 }) }, 42)), 20), Effect(false, Int, Ident { text: Text { string: \"e\" \
-     }, at: 66 }, Sum, 47), Run(List { items: [Foreach(Ident { text: Text { string: \"P\" }, at: \
-     98 }, Ident { text: Text { string: \"q\" }, at: 100 }, Ident { text: Text { string: \"P\" }, \
-     at: 109 }, List { items: [AssignLoop(Ident { text: Text { string: \"q\" }, at: 113 }, Ident { \
-     text: Text { string: \"e\" }, at: 115 }, Lit(Number { digits: Int(1), at: 118 }))] }, 90)] }, \
-     72)] }, at: 0 }] } }";
+     Fixed, Ident { text: Text { string: \"x\" }, at: 39 }, Some(Boxed { inner: Binary(Add, Boxed \
+     { inner: Name(Ident { text: Text { string: \"x\" }, at: 41 }) }, Boxed { inner: Lit(Number { \
+     digits: Fixed(1500000), at: 43 }) }, 42) }), 20), Effect(false, Int, Ident { text: Text { \
+     string: \"e\" }, at: 66 }, Sum, 47), Run(List { items: [Foreach(Ident { text: Text { string: \
+     \"P\" }, at: 98 }, Ident { text: Text { string: \"q\" }, at: 100 }, Ident { text: Text { \
+     string: \"P\" }, at: 109 }, List { items: [AssignLoop(Ident { text: Text { string: \"q\" }, \
+     at: 113 }, Ident { text: Text { string: \"e\" }, at: 115 }, Boxed { inner: Lit(Number { \
+     digits: Int(1), at: 118 }) })] }, 90)] }, 72)] }, at: 0 }] } }";
 
 const CHOOSES: &str =
     "class P{#visible[3];public state bool b;public void run(){const Q k=this.b;if(k){b<-abs(1);}\
@@ -28,15 +28,16 @@ const CHOOSES_TREE: &str =
     "Tree { classes: List { items: [ClassTree { name: Ident { text: Text { string: \"P\" }, at: 6 \
      }, members: List { items: [Visible(Number { digits: Int(3), at: 17 }, 8), State(true, Bool, \
      Ident { text: Text { string: \"b\" }, at: 38 }, None, 20), Run(List { items: \
-     [Const(Other(Ident { text: Text { string: \"Q\" }, at: 64 }), Ident { text: Text { \
-     string: \"k\" }, at: 66 }, OfThis(Ident { text: Text { string: \"b\" }, at: 73 }, 68), 58), \
-     If(Name(Ident { text: Text { string: \"k\" }, at: 78 }), List { items: [Assign(Ident { text: \
-     Text { string: \"b\" }, at: 81 }, Unary(Abs, Boxed { inner: Lit(Number { digits: Int(1), at: \
-     88 }) }, 84))] }, Some(List { items: [] }), 75), If(OfLoop(Ident { text: Text { string: \"q\" \
-     }, at: 101 }, Ident { text: Text { string: \"b\" }, at: 103 }), List { items: \
-     [AssignThis(Ident { text: Text { string: \"b\" }, at: 111 }, Lit(Number { digits: Int(2), at: \
-     114 }), 106)] }, None, 98)] }, 40)] }, at: 0 }, ClassTree { name: Ident { text: Text { \
-     string: \"Q\" }, at: 125 }, members: List { items: [] }, at: 119 }] } }";
+     [Const(Other(Ident { text: Text { string: \"Q\" }, at: 64 }), Ident { text: Text { string: \
+     \"k\" }, at: 66 }, Boxed { inner: OfThis(Ident { text: Text { string: \"b\" }, at: 73 }, 68) \
+     }, 58), If(Boxed { inner: Name(Ident { text: Text { string: \"k\" }, at: 78 }) }, List { \
+     items: [Assign(Ident { text: Text { string: \"b\" }, at: 81 }, Boxed { inner: Unary(Abs, \
+     Boxed { inner: Lit(Number { digits: Int(1), at: 88 }) }, 84) })] }, Some(List { items: [] \
+     }), 75), If(Boxed { inner: OfLoop(Ident { text: Text { string: \"q\" }, at: 101 }, Ident { \
+     text: Text { string: \"b\" }, at: 103 }) }, List { items: [AssignThis(Ident { text: Text { \
+     string: \"b\" }, at: 111 }, Boxed { inner: Lit(Number { digits: Int(2), at: 114 }) }, 106)] \
+     }, None, 98)] }, 40)] }, at: 0 }, ClassTree { name: Ident { text: Text { string: \"Q\" }, \
+     at: 125 }, members: List { items: [] }, at: 119 }] } }";
 
 const ENDS: &str =
     "class C{die when n>=2;public state int n;spawn when n==0{}}class D{spawn when true{x<-x+5.0;\
@@ -44,19 +45,20 @@ const ENDS: &str =
 
 const ENDS_TREE: &str =
     "Tree { classes: List { items: [ClassTree { name: Ident { text: Text { string: \"C\" }, at: 6 \
-     }, members: List { items: [Die(Binary(Ge, Boxed { inner: Name(Ident { text: Text { \
-     string: \"n\" }, at: 17 }) }, Boxed { inner: Lit(Number { digits: Int(2), at: 20 }) }, 18), \
-     8), State(true, Int, Ident { text: Text { string: \"n\" }, at: 39 }, None, 22), \
-     Spawn(Binary(Eq, Boxed { inner: Name(Ident { text: Text { string: \"n\" }, at: 52 }) }, Boxed \
-     { inner: Lit(Number { digits: Int(0), at: 55 }) }, 53), List { items: [] }, 41)] }, at: 0 }, \
-     ClassTree { name: Ident { text: Text { string: \"D\" }, at: 65 }, members: List { items: \
-     [Spawn(True(78), List { items: [GiftTree { state: Ident { text: Text { string: \"x\" }, at: \
-     83 }, value: Binary(Add, Boxed { inner: Name(Ident { text: Text { string: \"x\" }, at: 86 }) \
-     }, Boxed { inner: Lit(Number { digits: Fixed(5000000), at: 88 }) }, 87) }, GiftTree { state: \
-     Ident { text: Text { string: \"b\" }, at: 92 }, value: Choice(Boxed { inner: Binary(Gt, Boxed \
-     { inner: Name(Ident { text: Text { string: \"n\" }, at: 95 }) }, Boxed { inner: Lit(Number { \
-     digits: Int(1), at: 97 }) }, 96) }, Boxed { inner: True(99) }, Boxed { inner: False(104) }, \
-     98) }] }, 67)] }, at: 59 }] } }";
+     }, members: List { items: [Die(Boxed { inner: Binary(Ge, Boxed { inner: Name(Ident { text: \
+     Text { string: \"n\" }, at: 17 }) }, Boxed { inner: Lit(Number { digits: Int(2), at: 20 }) \
+     }, 18) }, 8), State(true, Int, Ident { text: Text { string: \"n\" }, at: 39 }, None, 22), \
+     Spawn(Boxed { inner: Binary(Eq, Boxed { inner: Name(Ident { text: Text { string: \"n\" }, \
+     at: 52 }) }, Boxed { inner: Lit(Number { digits: Int(0), at: 55 }) }, 53) }, List { items: \
+     [] }, 41)] }, at: 0 }, ClassTree { name: Ident { text: Text { string: \"D\" }, at: 65 }, \
+     members: List { items: [Spawn(Boxed { inner: True(78) }, List { items: [GiftTree { state: \
+     Ident { text: Text { string: \"x\" }, at: 83 }, value: Boxed { inner: Binary(Add, Boxed { \
+     inner: Name(Ident { text: Text { string: \"x\" }, at: 86 }) }, Boxed { inner: Lit(Number { \
+     digits: Fixed(5000000), at: 88 }) }, 87) } }, GiftTree { state: Ident { text: Text { string: \
+     \"b\" }, at: 92 }, value: Boxed { inner: Choice(Boxed { inner: Binary(Gt, Boxed { inner: \
+     Name(Ident { text: Text { string: \"n\" }, at: 95 }) }, Boxed { inner: Lit(Number { digits: \
+     Int(1), at: 97 }) }, 96) }, Boxed { inner: True(99) }, Boxed { inner: False(104) }, 98) } }] \
+     }, 67)] }, at: 59 }] } }";
 
 // The answer as text: the tree or the fault.
 fn answer(alloc: Global, text: &str) -> Result<String, AllocError> {
@@ -72,7 +74,7 @@ fn rule_of(alloc: Global, text: &str) -> Result<String, AllocError> {
         && let [class] = tree.classes.as_slice()
         && let [MemberTree::State(_, _, _, Some(rule), _)] = class.members.as_slice()
     {
-        format!(in alloc; "{rule:?}")
+        format!(in alloc; "{:?}", rule.get())
     } else {
         Ok(String::new(alloc))
     }

@@ -1,19 +1,18 @@
-use Rattle.std.proofs.Common.{◌≡◌, refl, sym, subst, ◌∙◌, List, [], ◌∷◌, rules}
-use Rattle.std.specs.Prelude.{None}
+use Rattle.std.proofs.Common.{◌≡◌, sym, subst, ℕ, List, []}
+use Rattle.std.specs.Prelude.{Result, Ok, Err, IfOk, OnOk}
+use Rattle.brace_model.specs.declared.program.Program.{Program}
 use Rattle.brace_model.specs.Lawful.{LawfulProgram}
+use Rattle.brace_names.specs.declared.resolved.Resolved.{Resolved}
 use Rattle.brace_check.specs.declared.fault.CheckFault.{CheckFault}
-use Rattle.brace_check.specs.Faults.{first, faults}
+use Rattle.brace_check.specs.Faults.{faults}
 use Rattle.brace_check.specs.Programs.{program_of}
+use Rattle.brace_check.specs.Resolved.{IsResolved}
 use Rattle.brace_check.proofs.LawfulProof.{accepted_lawful}
 use Rattle.brace_check.proofs.entry.check.Goals as goal
 
-none_found : (all : List CheckFault) → first all ≡ None → all ≡ []
-none_found [] h = refl
-none_found (x ∷ all) h = absurd (cc)
+lawful : (src : List ℕ) (r : Resolved) (result : Result Program CheckFault) → IsResolved src r → IfOk result (λ p. p ≡ program_of r) → OnOk result (faults r ≡ []) → IfOk result LawfulProgram
+lawful src r (Ok p) is means none = subst LawfulProgram (sym means) (accepted_lawful src r is none)
+lawful src r (Err e) is means none = tt
 
 pub returns-clause-lawful : goal.returns-clause-lawful
-returns-clause-lawful c src is =
-    let program : c.in_ok-program.field-0 ≡ program_of c.args.r = search rules in
-    let all : c.in_ok-faults.faults.items ≡ faults c.args.r = search rules in
-    let none : first c.in_ok-faults.faults.items ≡ None = search rules in
-    subst LawfulProgram (sym program) (accepted_lawful src c.args.r is (sym all ∙ none_found c.in_ok-faults.faults.items none))
+returns-clause-lawful c src is = lawful src c.args.r c.checked.result is c.checked.ensures.program c.checked.ensures.faultless

@@ -32,4 +32,5 @@ statement-returns-in-AssignLoop-clause-meant t c =
     let found : c.of_loop-found.result ≡ of_loop scope variable.text name.text = search (c.of_loop-found.ensures, c.as_bytes.ensures, c.as_bytes-in-AssignLoop.ensures, rules) in
     let means : part c.args.s.now ≡ part_step (layer.AssignLoop variable name x) = ap part c.in-AssignLoop.is ∙ of-AssignLoop part_step variable name x in
     subst (λ (p : Part (Meaning Stmt)). IfOk c.said_to_loop.result (λ s. s ≡ (p.here scope sites).0)) (sym means)
-    (subst (λ (o : Option LoopField). IfOk c.said_to_loop.result (λ s. s ≡ (said_to_loop variable.at o x scope sites).0)) found c.said_to_loop.ensures.meant)
+    (subst (λ (o : Option LoopField). IfOk c.said_to_loop.result (λ s. s ≡ (said_to_loop variable.at o x scope sites).0)) found
+    (subst (λ (e : ExprTree). IfOk c.said_to_loop.result (λ s. s ≡ (said_to_loop variable.at c.of_loop-found.result e scope sites).0)) c.get-in-AssignLoop.ensures c.said_to_loop.ensures.meant))
