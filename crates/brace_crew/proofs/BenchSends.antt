@@ -21,6 +21,7 @@ use Rattle.brace_pieces.specs.contracts.setting.Setting as Setting
 use Rattle.brace_model.specs.contracts.program.Gift as Gift
 use Rattle.brace_num.specs.contracts.list.List as List
 use Rattle.brace_pieces.specs.contracts.course.Course as Course
+use Rattle.brace_pieces.specs.contracts.turns.Turns as Turns
 use Rattle.brace_code.specs.contracts.code.Code as Code
 use Rattle.brace_code.specs.contracts.code.Instr as Instr
 use Rattle.brace_code.proofs.code.Instr.TheLaws.TheKnot as instr
@@ -32,21 +33,21 @@ use Rattle.brace_plan.specs.contracts.rules.Rules as Rules
 use Rattle.brace_plan.proofs.action.Action.TheLaws.TheKnot as action
 use Rattle.brace_plan.proofs.action.Bound.TheSendSync as bound
 use Rattle.brace_plan.proofs.loops.Loop.TheSendSync as loop
-use Rattle.brace_part.specs.contracts.query.Queries as Queries
+use Rattle.brace_herd.specs.contracts.query.Queries as Queries
 use Rattle.brace_part.specs.contracts.part.Part as Part
 use Rattle.brace_part.proofs.standing.Standing.TheSendSync as standing
 use denote.Struct.Declared.{shape}
 use Rattle.brace_pieces.specs.contracts.piece.Piece as Piece
 use Rattle.brace_pieces.proofs.piece.Piece.TheSendSync as piece
 use Rattle.brace_part.specs.contracts.standing.Standing as Standing
-use Rattle.brace_crew.specs.contracts.desk.Desk as Desk
-use Rattle.brace_crew.specs.contracts.desk.Desk.TheInside as desk
+use Rattle.brace_desk.specs.contracts.desk.Desk as Desk
+use Rattle.brace_desk.specs.contracts.desk.Desk.TheInside as desk
 use Rattle.brace_crew.specs.contracts.member.Member as Member
 use Rattle.brace_crew.specs.contracts.bench.Bench as Bench
-use Rattle.brace_crew.specs.contracts.desk.Lot as Lot
-use Rattle.brace_crew.specs.declared.publisher.Publisher.{Ghosts}
-use Rattle.brace_crew.proofs.desk.Lot.TheSendSync as lot
-use Rattle.brace_crew.proofs.desk.Stop.TheSendSync as stop
+use Rattle.brace_desk.specs.contracts.desk.Lot as Lot
+use Rattle.brace_desk.specs.declared.publisher.Publisher.{Ghosts}
+use Rattle.brace_desk.proofs.desk.Lot.TheSendSync as lot
+use Rattle.brace_desk.proofs.publisher.PubFault.TheSendSync as fault
 use Rattle.brace_lanes.proofs.end.LaneEnd.TheSendSync as end
 use denote.Ref.{NamedLft}
 use denote.RattleType.{RattleType}
@@ -216,11 +217,14 @@ queries_send = search (plans_send, sendable) depth 60 fits 20000
 course_send : (κ : NamedLft) → IsSend (Course.the_field κ).row
 course_send κ = search (setting_row, crosses, sendable) depth 60 fits 20000
 
+turns_send : (κ : NamedLft) → IsSend (Turns.the_field κ).row
+turns_send κ = search (course_send, crosses, sendable) depth 60 fits 20000
+
 standing_send : IsSend (Standing.the_field).row
 standing_send = search (standing.the_field_send, crosses, sendable) depth 60 fits 20000
 
 part_send : (κ : NamedLft) → IsSend (Part.the_field κ).row
-part_send κ = search (course_send, standing_send, queries_send, crosses, sendable) depth 60 fits 20000
+part_send κ = search (turns_send, standing_send, queries_send, crosses, sendable) depth 60 fits 20000
 
 piece_row : IsSend Piece.the_row
 piece_row = search (piece.the_send, crosses, sendable) depth 60 fits 20000
@@ -234,14 +238,14 @@ module _ (κ : NamedLft) (P : RattleType) (of : Ghosts P.Denot) (sent : IsSend P
       recorded_send _ _ _ (desk.the_type κ P of).to_one (struct_send (shape (desk.the_type κ P of)) (
         search (crosses, sendable) depth 30,
         (
-          search (course_send, sendable) depth 30,
+          search (turns_send, sendable) depth 30,
           (
             search (crosses, sendable) depth 30,
             (
               search (sent, sendable) depth 30,
               (
-                search (lot_send, crosses, sendable) depth 30,
-                (search (stop.the_send, sendable) depth 30, (search sendable depth 30, (search sendable depth 30, (search (crosses, sendable) depth 30, tt)))),
+                search (fault.the_send, sendable) depth 30,
+                (search sendable depth 30, (search (lot_send, crosses, sendable) depth 30, (search sendable depth 30, (search (crosses, sendable) depth 30, tt)))),
               ),
             ),
           ),

@@ -28,7 +28,7 @@ use Rattle.brace_pieces.specs.Owned.{owned}
 use Rattle.brace_pieces.specs.Right.{IsRightIn, IsRightAt, border, handed, moved, shown}
 use Rattle.brace_pieces.proofs.OnLemmas.{on_next}
 use Rattle.brace_pieces.proofs.OrderLemmas.{steps_tick}
-use Rattle.brace_part.proofs.LawfulOn.{some_pass}
+use Rattle.brace_herd.proofs.LawfulOn.{some_pass}
 use Rattle.brace_crew.proofs.MemberLemmas.{of_all_map}
 use Rattle.brace_wire.specs.Fitting.{layout, are_of, is_of, IsOf}
 use Rattle.brace_wire.specs.Shown.{HasBytes}

@@ -20,11 +20,11 @@ use Rattle.brace_pieces.specs.Right.{IsFaultless}
 use Rattle.brace_pieces.proofs.Origins.{of_take}
 use Rattle.brace_pieces.proofs.EpochLemmas.{since, from_one}
 use Rattle.brace_pieces.proofs.FoundLemmas.{found_by_part, run_reaches, first_not_before, first_found, before_first}
-use Rattle.brace_crew.specs.declared.publisher.Publisher as publisher
-use Rattle.brace_crew.specs.declared.publisher.PubFault.{PubFault}
-use Rattle.brace_crew.specs.Calls.{world_shown, worlds_at, call_at, ticks_left, call_of, calls_to, calls, behind, IsCut}
-use Rattle.brace_crew.specs.Desks.{whole_at, end_calls, AreFaultless}
-use Rattle.brace_crew.proofs.EndCalls.{whole_call}
+use Rattle.brace_desk.specs.declared.publisher.Publisher as publisher
+use Rattle.brace_desk.specs.declared.publisher.PubFault.{PubFault}
+use Rattle.brace_desk.specs.Calls.{world_shown, worlds_at, call_at, ticks_left, call_of, calls_to, calls, behind, IsCut}
+use Rattle.brace_desk.specs.Desks.{whole_at, end_calls, AreFaultless}
+use Rattle.brace_desk.proofs.EndCalls.{whole_call}
 use Rattle.brace_crew.proofs.FirstFault.{IsRun, EndsIn}
 use Rattle.brace_crew.proofs.MemberLemmas.{kept_rise}
 use Rattle.brace_num.proofs.Lists.{All-from_contains, filter_all, filter_none, filter_alike}

@@ -5,11 +5,11 @@ use Rattle.std.proofs.lemmas.List.Elements.{All-contains, Contains-get_or}
 use Rattle.brace_pieces.specs.declared.setting.Setting.{Setting}
 use Rattle.brace_pieces.specs.Steps.{steps}
 use Rattle.brace_pieces.specs.Courses.{IsCourse}
-use Rattle.brace_part.specs.declared.counts.Counts.{Counts}
+use Rattle.brace_pieces.specs.declared.counts.Counts.{Counts}
 use Rattle.brace_part.specs.Parts.{OnPart}
 use Rattle.brace_crew.specs.declared.member.Member.{Member}
 use Rattle.brace_crew.specs.declared.member.Member.TheVariants as member
-use Rattle.brace_part.specs.Given.{summed, together, given_in, counts_up_to}
+use Rattle.brace_pieces.specs.Given.{summed, together, given_in, counts_up_to}
 use Rattle.brace_crew.specs.Members.{course_of, IsAt}
 use Rattle.brace_crew.specs.inner.Crews.{AreParts}
 use Rattle.brace_pieces.proofs.CourseLemmas.{stands_there}

@@ -1,10 +1,10 @@
 -- What a run comes to, by what its desk published and where it halted.
-use Rattle.std.proofs.Common.{◌≡◌, ◌∙◌, refl, sym, ap, subst, ℕ, suc, ◌+◌, ◌-◌, ◌%◌, ◌<◌, ◌≤◌, List, [], ◌∷◌, ◌++◌, map, filter, take, take_all, take_at, length-take-le, count_by, length, Bool, true, false, cond, if◌then◌else◌, Some, None, Ok, Err, slice_get, All, Contains, IsTrue, ◌==◌, ◌||◌, ◌⊎◌, append-nil, arith, inl, inr}
+use Rattle.std.proofs.Common.{◌≡◌, ◌∙◌, refl, sym, ap, subst, ℕ, suc, ◌+◌, ◌-◌, ◌%◌, ◌<◌, ◌≤◌, List, [], ◌∷◌, ◌++◌, map, filter, take, take_all, take_at, length-take-le, length, Bool, true, false, if◌then◌else◌, Some, None, Ok, Err, slice_get, All, Contains, IsTrue, ◌==◌, ◌||◌, ◌⊎◌, append-nil, arith, inl, inr}
 use Rattle.std.specs.List.{range_with_len}
 use Rattle.std.specs.Result.{result_err}
 use Rattle.std.proofs.lemmas.Bool.{cases_lt, or_right}
 use Rattle.std.proofs.lemmas.Option.{slice_get_within, get_or_from_slice_get}
-use Rattle.std.proofs.lemmas.List.Sums.{fold-append, length-filter, sum_by-take-le}
+use Rattle.std.proofs.lemmas.List.Sums.{fold-append}
 use Rattle.std.proofs.lemmas.List.Elements.{All-contains}
 use Rattle.brace_io.specs.Counts.{Rose}
 use Rattle.brace_model.specs.declared.fault.Fault.{Fault}
@@ -14,7 +14,6 @@ use Rattle.brace_model.specs.Run.{world_after, first_fault}
 use Rattle.brace_invert.proofs.Heard.{seen_in}
 use Rattle.brace_pieces.specs.declared.setting.Setting.{Setting}
 use Rattle.brace_pieces.specs.declared.setting.Stage.TheVariants as stage
-use Rattle.brace_pieces.specs.declared.setting.Step.{Step}
 use Rattle.brace_pieces.specs.declared.piece.Cause.{Cause}
 use Rattle.brace_pieces.specs.declared.piece.Cause.TheVariants as cause
 use Rattle.brace_pieces.specs.declared.piece.Shown.{Shown}
@@ -23,23 +22,24 @@ use Rattle.brace_pieces.specs.Steps.{step, steps, is_show}
 use Rattle.brace_pieces.specs.Continued.{on}
 use Rattle.brace_pieces.specs.Finds.{stage_of, found_at}
 use Rattle.brace_pieces.specs.Right.{IsFaultless, IsShown, IsRightCause}
-use Rattle.brace_part.specs.declared.counts.Counts.{Counts}
-use Rattle.brace_part.specs.Given.{all_given}
-use Rattle.brace_part.proofs.AllGave.{border_counted, effects_counted, moved_counted, handed_counted}
-use Rattle.brace_crew.specs.declared.publisher.Publisher as publisher
-use Rattle.brace_crew.specs.declared.publisher.PubFault.{PubFault}
-use Rattle.brace_crew.specs.declared.publisher.PubFault.TheVariants as refusal
+use Rattle.brace_pieces.specs.declared.counts.Counts.{Counts}
+use Rattle.brace_pieces.specs.Given.{all_given}
+use Rattle.brace_pieces.proofs.AllGave.{border_counted, effects_counted, moved_counted, handed_counted}
+use Rattle.brace_desk.specs.declared.publisher.Publisher as publisher
+use Rattle.brace_desk.specs.declared.publisher.PubFault.{PubFault}
+use Rattle.brace_desk.specs.declared.publisher.PubFault.TheVariants as refusal
 use Rattle.brace_crew.specs.declared.crew.CrewFault.{CrewFault}
 use Rattle.brace_crew.specs.declared.crew.CrewFault.TheVariants as fault
-use Rattle.brace_crew.specs.declared.desk.Lot.{Lot}
-use Rattle.brace_crew.specs.Refusals.{tick_of}
-use Rattle.brace_crew.specs.Calls.{Call, ticks_left, call_of, calls_to, calls, call_at, behind, IsCut, IsFront, HasRun, Rises, refused_by, CameBy, CameTo}
-use Rattle.brace_crew.specs.Desks.{OnDesk, whole_at, end_calls, ends_before, AreFaultless, StoppedAt, HasShown, HasHalted, HasRefused}
+use Rattle.brace_desk.specs.declared.desk.Lot.{Lot}
+use Rattle.brace_desk.specs.Refusals.{tick_of}
+use Rattle.brace_desk.specs.Calls.{Call, ticks_left, call_of, calls_to, calls, call_at, behind, IsCut, IsFront, Rises}
+use Rattle.brace_crew.specs.Came.{HasRun, refused_by, CameBy, CameTo}
+use Rattle.brace_desk.specs.Desks.{OnDesk, stop_of, whole_at, end_calls, ends_before, AreFaultless, StoppedAt, HasShown, HasHalted, HasRefused}
 use Rattle.brace_crew.specs.declared.member.Member.TheVariants as member
 use Rattle.brace_crew.specs.Members.{IsAt, WasUntold}
 use Rattle.brace_crew.specs.Workers.{ends_until, EndsBehind}
 use Rattle.brace_crew.specs.inner.Crews.{IsReached, IsDeskOf}
-use Rattle.brace_crew.proofs.EndCalls.{end_there, ends_all, whole_call, call_there}
+use Rattle.brace_desk.proofs.EndCalls.{few_shown, end_there, ends_all, whole_call, call_there}
 use Rattle.brace_pieces.specs.Courses.{IsCourse}
 use Rattle.brace_pieces.specs.Fronts.{steps_to}
 use Rattle.brace_pieces.proofs.CourseLemmas.{StandsThere, stands_there}
@@ -48,7 +48,7 @@ use Rattle.brace_pieces.proofs.EpochLemmas.{last_is_end}
 use Rattle.brace_pieces.proofs.OrderLemmas.{shows_later}
 use Rattle.brace_crew.proofs.FirstFault.{IsRun, EndsIn, none_sooner}
 use Rattle.brace_crew.proofs.CallsMade.{StopsAt, ends_up_to, all_calls, same_from, calls_begin, calls_front, worlds_there, cut_of_run}
-use Rattle.brace_crew.proofs.RiseLemmas.{rose_from, then_rises}
+use Rattle.brace_desk.proofs.RiseLemmas.{rose_from, then_rises}
 use Rattle.brace_num.proofs.Lists.{All-from_contains, in_filter, none_long, at_seam}
 use Rattle.brace_num.proofs.Rows.{in_row, row_has}
 
@@ -255,14 +255,6 @@ module _ {P : Type 0} (of : publisher.Ghosts P) (s : Setting) (d : OnDesk P) (of
 
 -- ---- behind how many steps a run ends
 
--- the first steps show no more ends than all
-few_shown : (ats : List Step) (n : ℕ) → length (filter (λ at. is_show at.stage) (take n ats)) ≤ length (filter (λ at. is_show at.stage) ats)
-few_shown ats n =
-    let t : Step → Bool = λ at. is_show at.stage in
-    let few : count_by t (take n ats) ≤ count_by t ats =
-    sum_by-take-le (λ (at : Step). cond (t at) 1 0) ats n in
-    omega (arith, length-filter t (take n ats), length-filter t ats, few)
-
 -- so behind more ends than there are no step is left
 steps_gone : (s : Setting) (k : ℕ) → ends_before s (length (steps s)) < k → steps_to s k ≡ length (steps s)
 steps_gone s k over = elim (cases_lt (steps_to s k) (length (steps s))) [
@@ -313,7 +305,7 @@ module _ {P : Type 0} (s : Setting) (n : ℕ) (d : OnDesk P) (desk : IsDeskOf s 
   ends_there = ap (λ ats. length (filter (λ at. is_show at.stage) ats)) stands.same_steps
 
   -- where nothing stopped, it is behind the last step, and all ends were shown
-  module _ (none : d.stop ≡ None) (no_told : d.told ≡ true → d.stop ≡ None → ⊥) where
+  module _ (none : stop_of d ≡ None) (no_told : d.told ≡ true → stop_of d ≡ None → ⊥) where
     pub goes_through : n ≡ length (steps s)
     goes_through = elim desk.last.1.0 [
       | inl told ↦ absurd (no_told told none)

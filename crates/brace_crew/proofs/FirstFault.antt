@@ -27,7 +27,7 @@ use Rattle.brace_pieces.proofs.HaltLemmas.{halt_found}
 use Rattle.brace_pieces.proofs.Origins.{of_map, of_flat_map, flat_map_of}
 use Rattle.brace_pieces.proofs.OrderLemmas.{stands_once}
 use Rattle.brace_pieces.proofs.FoundLemmas.{found_by_part, first_found}
-use Rattle.brace_part.specs.Parts.{found_in_work}
+use Rattle.brace_herd.specs.Works.{found_in_work}
 use Rattle.brace_crew.specs.declared.member.Member.{Member}
 use Rattle.brace_crew.specs.declared.member.Member.TheVariants as member
 use Rattle.brace_crew.specs.Members.{course_of, IsAt}

@@ -14,11 +14,11 @@ use Rattle.brace_pieces.specs.Continued.{on}
 use Rattle.brace_pieces.specs.Owned.{owned}
 use Rattle.brace_pieces.specs.Right.{IsShown, shown}
 use Rattle.brace_part.specs.inner.Ready.{AreKept}
-use Rattle.brace_crew.specs.declared.desk.Lot.{Lot}
+use Rattle.brace_desk.specs.declared.desk.Lot.{Lot}
 use Rattle.brace_crew.specs.declared.member.Member.{Member}
 use Rattle.brace_crew.specs.Members.{course_of}
-use Rattle.brace_crew.specs.Calls.{ticks_left}
-use Rattle.brace_crew.specs.inner.Lots.{world_of, brought, tick_shown}
+use Rattle.brace_desk.specs.Calls.{ticks_left}
+use Rattle.brace_desk.specs.Lots.{world_of, brought, tick_shown}
 use Rattle.brace_crew.specs.inner.Crews.{AreOf, AreParts}
 use Rattle.brace_pieces.proofs.EpochLemmas.{shown_alike, from_one, from_first}
 use Rattle.brace_crew.proofs.MemberLemmas.{row_more}

@@ -1,12 +1,3 @@
-pub mod SaveLemmas
-pub mod TextLemmas
-pub mod RiseLemmas
-pub mod EndCalls
-pub mod DeskCourses
-pub mod DeskKept
-pub mod DeskTurns
-pub mod DeskWorks
-pub mod JoinLemmas
 pub mod LeftLemmas
 pub mod MemberLemmas
 pub mod FirstFault

@@ -1,8 +1,8 @@
 -- What a run comes to that was given up for want of memory.
 use Rattle.std.proofs.Common.{◌≡◌, Option, Some, None}
-use Rattle.brace_crew.specs.declared.publisher.PubFault.{PubFault}
-use Rattle.brace_crew.specs.declared.desk.Stop.{Stop}
-use Rattle.brace_crew.specs.declared.desk.Stop.TheVariants as stop
+use Rattle.brace_desk.specs.declared.publisher.PubFault.{PubFault}
+use Rattle.brace_desk.specs.declared.desk.Stop.{Stop}
+use Rattle.brace_desk.specs.declared.desk.Stop.TheVariants as stop
 use Rattle.brace_pieces.specs.declared.piece.Cause.{Cause}
 
 -- where nothing stopped, or a part halted, nothing was refused

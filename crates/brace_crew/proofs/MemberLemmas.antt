@@ -11,7 +11,7 @@ use Rattle.std.proofs.lemmas.List.Elements.{All-nil, All-cons, All-head, All-tai
 use Rattle.brace_pieces.specs.declared.setting.Setting.{Setting}
 use Rattle.brace_pieces.specs.Settings.{parts}
 use Rattle.brace_pieces.specs.Courses.{at_start, past_of}
-use Rattle.brace_crew.specs.Desks.{OnDesk}
+use Rattle.brace_desk.specs.Desks.{OnDesk}
 use Rattle.brace_crew.specs.Members.{course_of, opening_of, HasTold, WasUntold}
 use Rattle.brace_crew.specs.declared.member.Member.{Member}
 use Rattle.brace_crew.specs.declared.member.Member.TheVariants as member

@@ -9,7 +9,7 @@ use Rattle.brace_pieces.specs.declared.setting.Setting.{Setting}
 use Rattle.brace_pieces.specs.Settings.{parts}
 use Rattle.brace_crew.specs.declared.member.Member.{Member}
 use Rattle.brace_crew.specs.declared.member.Member.TheVariants as member
-use Rattle.brace_crew.specs.Desks.{OnDesk, ends_before}
+use Rattle.brace_desk.specs.Desks.{OnDesk, ends_before}
 use Rattle.brace_crew.specs.Members.{course_of, opening_of, kept_of, IsAt, IsLast, WasUntold}
 use Rattle.brace_crew.specs.inner.Crews.{AreParts, AreMembers, AreEnded, IsDeskOf, opening_in, all_numbers}
 use Rattle.brace_crew.proofs.MemberLemmas.{of_all_map, row_more, part_opens, desk_opens}

@@ -1,11 +1,5 @@
 pub mod Benches
-pub mod Calls
-pub mod Desks
-pub mod Filed
+pub mod Came
 pub mod Members
-pub mod Refusals
-pub mod Shows
-pub mod Sums
-pub mod Watched
 pub mod Workers
 pub mod inner

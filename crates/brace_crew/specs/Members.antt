@@ -10,7 +10,7 @@ use Rattle.brace_pieces.specs.Courses.{OnCourse, past_of}
 use Rattle.brace_part.specs.Parts.{asks_next}
 use Rattle.brace_crew.specs.declared.member.Member.{Member}
 use Rattle.brace_crew.specs.declared.member.Member.TheVariants as member
-use Rattle.brace_crew.specs.Desks.{ends_before}
+use Rattle.brace_desk.specs.Desks.{ends_before}
 
 -- where a member stands
 abbrev pub course_of : {P : Type 0} → Member P → OnCourse

@@ -9,11 +9,11 @@ use Rattle.brace_pieces.specs.declared.setting.Setting.{Setting}
 use Rattle.brace_pieces.specs.Settings.{parts, ends}
 use Rattle.brace_pieces.specs.Steps.{steps, schedule}
 use Rattle.brace_pieces.specs.Fronts.{steps_to}
-use Rattle.brace_part.specs.declared.counts.Counts.{Counts}
+use Rattle.brace_pieces.specs.declared.counts.Counts.{Counts}
 use Rattle.brace_crew.specs.declared.crew.CrewFault.{CrewFault}
 use Rattle.brace_crew.specs.declared.crew.CrewFault.TheVariants as crew
-use Rattle.brace_crew.specs.declared.publisher.Publisher as publisher
-use Rattle.brace_crew.specs.Calls.{calls, IsCut, IsFront}
+use Rattle.brace_desk.specs.declared.publisher.Publisher as publisher
+use Rattle.brace_desk.specs.Calls.{calls, IsCut, IsFront}
 use Rattle.brace_crew.specs.Benches.{IsUsedTo}
 
 -- how many ends a run has up to a tick

@@ -10,10 +10,11 @@ ghost use Rattle.brace_crew.specs.inner.Crews.{HaveDeskLast};
 ghost use Rattle.brace_crew.specs.inner.Teams.{HasCome, StaysWithin};
 ghost use Rattle.brace_crew.specs.inner.Driven.{AreCounted, AreSame, WentAll, both};
 
+use crate::Member;
 use crate::crew::end_here;
 use crate::crowd::Crowd;
-use crate::{Member, Publisher};
 use brace_core::{Actor, Turn, Went, make_turn};
+use brace_desk::Publisher;
 use brace_io::Gate;
 use brace_lanes::{LaneEnd, LaneSeat};
 use brace_pieces::Piece;

@@ -11,25 +11,25 @@ ghost use Rattle.brace_pieces.specs.Settings.{LawfulSetting, parts, is_end, show
 ghost use Rattle.brace_pieces.specs.Steps.{schedule, steps};
 ghost use Rattle.brace_pieces.specs.Right.{IsShown};
 ghost use Rattle.brace_pieces.specs.Courses.{IsCourse, at_start};
-ghost use Rattle.brace_part.specs.declared.counts.Counts.{Counts};
-ghost use Rattle.brace_part.specs.Given.{all_given};
-ghost use Rattle.brace_crew.specs.declared.publisher.PubFault.{PubFault};
-ghost use Rattle.brace_crew.specs.declared.publisher.PubFault.TheVariants as refusal;
-ghost use Rattle.brace_crew.specs.Calls.{ticks_left, refused_by, Rises, CameTo};
-ghost use Rattle.brace_crew.specs.Desks.{whole_at, HasHalted};
+ghost use Rattle.brace_pieces.specs.declared.counts.Counts.{Counts};
+ghost use Rattle.brace_pieces.specs.Given.{all_given};
+ghost use Rattle.brace_desk.specs.declared.publisher.PubFault.{PubFault};
+ghost use Rattle.brace_desk.specs.declared.publisher.PubFault.TheVariants as refusal;
+ghost use Rattle.brace_desk.specs.Calls.{ticks_left, Rises};
+ghost use Rattle.brace_crew.specs.Came.{refused_by, CameTo};
+ghost use Rattle.brace_desk.specs.Desks.{whole_at, HasHalted};
 ghost use Rattle.brace_crew.specs.Members.{course_of, opening_of, HasTold, IsAt, WasUntold};
 ghost use Rattle.brace_crew.specs.Workers.{AreUsedTo, EndsBehind, HasEnded};
-ghost use Rattle.brace_crew.specs.inner.Lots.{world_of, brought, tick_shown};
+ghost use Rattle.brace_desk.specs.Lots.{world_of, brought, tick_shown};
 ghost use Rattle.brace_crew.specs.inner.Crews.{AreParts, AreMembers, AreNew, AreEnded, Begin, HaveDeskLast, IsDeskOf, told_by, IsTelling, AreOf, all_numbers, part_numbers, served};
 
-use crate::desk::{Lot, Stop};
-use crate::join::joined;
-use crate::{Desk, Member, PubFault, Publisher};
+use crate::Member;
 use brace_core::{PlainLanes, run_in_order};
+use brace_desk::{Desk, Lot, PubFault, Publisher, Stop, joined};
 use brace_model::{Fault, with_earlier};
 use brace_num::{List, NoMemory};
-use brace_part::{Counts, Part};
-use brace_pieces::{Cause, Fronts, Piece, Setting, Shown, owned_of};
+use brace_part::Part;
+use brace_pieces::{Cause, Counts, Fronts, Piece, Setting, Shown, owned_of};
 use std::alloc::Global;
 
 /// Why a run did not come to its last tick, or not all of it was published.
@@ -57,7 +57,7 @@ fn part_of<'a>(alloc: Global, setting: &'a Setting, number: u32) -> Result<Part<
 {
     let job = &setting.job;
     let own = owned_of(alloc, setting, job.first, job.start.agents(), number)?;
-    Part::make(alloc, setting, number, own.into_vec())
+    Part::make(alloc, setting, number, own)
 }
 
 /// The parts of a run that a worker serves, of so many workers, before their first turns, with a

@@ -6,17 +6,16 @@ ghost use Rattle.brace_pieces.specs.Settings.{LawfulSetting, parts};
 ghost use Rattle.brace_pieces.specs.Steps.{schedule};
 ghost use Rattle.brace_wire.specs.Links.{fresh, link_of, puts_on, received_on, takes_on};
 ghost use Rattle.brace_wire.specs.Shown.{is_lost};
-ghost use Rattle.brace_crew.specs.Calls.{CameTo};
+ghost use Rattle.brace_crew.specs.Came.{CameTo};
 ghost use Rattle.brace_crew.specs.Members.{course_of, opening_of};
 ghost use Rattle.brace_crew.specs.Workers.{AreUsedTo, EndsBehind, TellsEnd};
 ghost use Rattle.brace_crew.specs.inner.Crews.{AreMembers, AreEnded, Begin, all_numbers};
 
 use crate::crew::{actors, concluded, end_here, members};
-use crate::desk::Stop;
-use crate::{CrewFault, Desk, Member, Publisher};
+use crate::{CrewFault, Member};
+use brace_desk::{Desk, Publisher, Stop};
 use brace_num::NoMemory;
-use brace_part::Counts;
-use brace_pieces::{Fronts, Setting};
+use brace_pieces::{Counts, Fronts, Setting};
 use brace_wire::{Fate, WireLanes, run_over_links};
 use std::alloc::Global;
 

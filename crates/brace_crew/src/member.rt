@@ -2,8 +2,8 @@ ghost use Rattle.std.specs.Prelude.{◌≡◌, ◌≤◌, ℕ, length, true, fal
 ghost use Rattle.brace_pieces.specs.Steps.{steps};
 ghost use Rattle.brace_crew.specs.Members.{asked_of, course_of, opening_of, HasTold, IsAt, WasUntold};
 
-use crate::{Desk, Publisher};
 use brace_core::{Actor, Turn};
+use brace_desk::{Desk, Publisher};
 use brace_part::Part;
 use brace_pieces::Piece;
 

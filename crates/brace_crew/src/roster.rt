@@ -8,7 +8,8 @@ ghost use Rattle.brace_crew.specs.inner.Crews.{AreNew, all_numbers, part_numbers
 ghost use Rattle.brace_crew.specs.inner.Teams.{AreRosters, HasCome, IsTeam};
 
 use crate::crew::parts;
-use crate::{Bench, Desk, Member, Publisher};
+use crate::{Bench, Member};
+use brace_desk::{Desk, Publisher};
 use brace_lanes::{LaneEnd, LaneSeat, Lanes};
 use brace_num::NoMemory;
 use brace_pieces::{Piece, Setting};

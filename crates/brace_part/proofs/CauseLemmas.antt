@@ -3,7 +3,6 @@ use Rattle.std.proofs.Common.{◌≡◌, ◌∙◌, refl, sym, ap, subst, ℕ, �
 use Rattle.std.specs.Prelude.{slice_get, is_some, if◌then◌else◌}
 use Rattle.std.proofs.lemmas.Bool.{cases_lt, true≢false}
 use Rattle.std.proofs.lemmas.List.Elements.{Contains-append_cases}
-use Rattle.brace_core.specs.Schedule.{name}
 use Rattle.brace_model.specs.declared.fault.Fault.{Fault}
 use Rattle.brace_model.specs.declared.fault.Phase.TheVariants.{Update}
 use Rattle.brace_model.specs.FaultOrder.{least}
@@ -14,17 +13,19 @@ use Rattle.brace_pieces.specs.declared.setting.Stage.TheVariants as stage
 use Rattle.brace_pieces.specs.declared.setting.Step.{Step}
 use Rattle.brace_pieces.specs.declared.piece.Cause.{Cause}
 use Rattle.brace_pieces.specs.declared.piece.Cause.TheVariants as cause
+use Rattle.brace_pieces.specs.declared.piece.Piece.{Piece}
 use Rattle.brace_pieces.specs.declared.piece.Piece.TheVariants as piece
 use Rattle.brace_pieces.specs.Settings.{LawfulSetting}
 use Rattle.brace_pieces.specs.Steps.{step, steps}
 use Rattle.brace_pieces.specs.Continued.{on}
 use Rattle.brace_pieces.specs.Finds.{queries_found, updates_found, stage_of}
-use Rattle.brace_pieces.specs.Right.{StandsBefore, IsTold, IsRightCause, IsRight, IsRightIn, IsRightAt}
+use Rattle.brace_pieces.specs.Right.{StandsBefore, IsTold, IsRightCause}
 use Rattle.brace_pieces.proofs.ToldLemmas.{query_told, update_told, birth_told}
-use Rattle.brace_part.specs.Parts.{found_in_work, cause_of, IsCauseOf, IsCauseBehind, IsCauseOfAll}
-use Rattle.brace_part.specs.inner.Sound.{IsHalted}
+use Rattle.brace_herd.specs.Works.{found_in_work, cause_of, IsCauseOf}
+use Rattle.brace_part.specs.Parts.{IsCauseBehind, IsCauseOfAll}
+use Rattle.brace_pieces.specs.Exchanged.{GoesOn, IsHalted}
+use Rattle.brace_pieces.specs.Turns.{cause_behind}
 use Rattle.brace_pieces.proofs.StepLemmas.{OfRun, of_run}
-use Rattle.brace_part.proofs.OutLemmas.{right_in}
 use Rattle.brace_pieces.proofs.PlaceLemmas.{some_is}
 
 none_in : (f : Fault) → Contains [] f → ⊥
@@ -68,23 +69,13 @@ module _ (s : Setting) (lawful : LawfulSetting s) (p k : ℕ) where
           (found_told at.stage at.tick stands (of_run s k at stands) f ((least_is (found_in_work s p at.stage at.tick) f).0 e).0)
   cause_told at stands c (inr none) = subst (IsRightCause s (k + 1)) (sym none) tt
 
--- ---- a Halt is right where its cause is
-
-halt_at : (s : Setting) (k p q t : ℕ) (c : Cause) (st : Stage) → IsRightCause s k c → IsRightAt s k st t p q (piece.Halt c)
-halt_at s k p q t c stage.Hand right = right
-halt_at s k p q t c _ right = right
-
-at_halt : (s : Setting) (k p q t : ℕ) (c : Cause) (st : Stage) → IsRightAt s k st t p q (piece.Halt c) → IsRightCause s k c
-at_halt s k p q t c stage.Hand right = right
-at_halt s k p q t c _ right = right
-
-pub halt_right : (s : Setting) (k p q : ℕ) (at : Step) (c : Cause) → slice_get (steps s) k ≡ Some at → IsRightCause s k c → IsRight s (name k p q) (piece.Halt c)
-halt_right s k p q at c stands right = right_in s k p q at (piece.Halt c) stands (halt_at s k p q at.tick c at.stage right)
-
-pub right_halt : (s : Setting) (k p q : ℕ) (at : Step) (c : Cause) → slice_get (steps s) k ≡ Some at → IsRight s (name k p q) (piece.Halt c) → IsRightCause s k c
-right_halt s k p q at c stands right = at_halt s k p q at.tick c at.stage (subst (IsRightIn s (name k p q) (piece.Halt c)) stands right)
-
 -- ---- a part has a cause for what it found
+
+-- a part that has no cause behind a piece had none before, and the piece is no Halt
+pub none_behind : (o : Option Cause) (x : Piece) → cause_behind o x ≡ None → (o ≡ None) × GoesOn x
+none_behind (Some c) x is = absurd (cc)
+none_behind None (piece.Halt c) is = absurd (cc)
+none_behind None _ is = (refl, tt)
 
 none_some : {A : Type 0} (x : A) → None ≡ Some x → ⊥
 none_some x e = cc
@@ -100,6 +91,11 @@ module _ (s : Setting) (p : ℕ) where
     | inl is ↦ absurd (none_some (cause.Fault f) is)
     | inr has ↦ absurd (none_some has.0 has.1.0)
   ]
+
+  -- behind a piece that it took
+  pub found_behind : (k : ℕ) (o : Option Cause) (x : Piece) → IsCauseOfAll s p k o → IsCauseOfAll s p k (cause_behind o x)
+  found_behind k (Some c) x all = all
+  found_behind k None x all = found_more k (cause_behind None x) all
 
   -- behind the work of one more step
   found_next : (k : ℕ) (at : Step) (c : Option Cause) → slice_get (steps s) k ≡ Some at → IsCauseOfAll s p k c → IsCauseBehind s k (found_in_work s p at.stage at.tick) c → IsCauseOfAll s p (k + 1) c

@@ -10,17 +10,20 @@ use Rattle.brace_pieces.specs.declared.setting.Step.{Step}
 use Rattle.brace_pieces.specs.declared.piece.Shown.{Shown}
 use Rattle.brace_pieces.specs.Steps.{steps}
 use Rattle.brace_pieces.specs.Continued.{on}
-use Rattle.brace_part.specs.declared.query.Queries.{Queries}
-use Rattle.brace_part.specs.declared.standing.Stance.{Stance}
-use Rattle.brace_part.specs.declared.standing.Stance.TheVariants.{Owns}
+use Rattle.brace_herd.specs.declared.query.Queries.{Queries}
+use Rattle.brace_herd.specs.declared.stance.Stance.{Stance}
+use Rattle.brace_herd.specs.declared.stance.Stance.TheVariants.{Owns}
 use Rattle.brace_part.specs.declared.standing.Standing.{Standing}
-use Rattle.brace_part.specs.Parts.{own_under, kept_at, found_in_work, keeps_before}
-use Rattle.brace_part.specs.inner.Ready.{IsReadyFor, IsReadyBehind, IsNextAt, next_behind, AreKept}
-use Rattle.brace_part.specs.inner.Sound.{IsPartOf, IsAtWork, ComesTo, owns_in}
+use Rattle.brace_herd.specs.Works.{own_under, found_in_work}
+use Rattle.brace_part.specs.Parts.{kept_at, keeps_before}
+use Rattle.brace_herd.specs.Ready.{IsReadyFor, IsReadyBehind}
+use Rattle.brace_part.specs.inner.Ready.{IsNextAt, next_behind, AreKept}
+use Rattle.brace_herd.specs.Workers.{IsPartOf}
+use Rattle.brace_part.specs.inner.Sound.{IsAtWork, ComesTo, owns_in}
 use Rattle.brace_pieces.proofs.StepLemmas.{of_run}
 use Rattle.brace_pieces.proofs.EpochLemmas.{shown_behind}
 use Rattle.brace_part.proofs.NextLemmas.{ready_next, faultless_next, numbered_next, numbered_moved}
-use Rattle.brace_part.proofs.CellLemmas.{stored_are}
+use Rattle.brace_herd.proofs.CellLemmas.{stored_are}
 use Rattle.brace_part.proofs.ShownLemmas.{is_noted, one_noted, brings_next}
 
 -- what a part notes of a tick

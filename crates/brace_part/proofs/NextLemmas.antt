@@ -23,10 +23,11 @@ use Rattle.brace_pieces.specs.Right.{IsFaultless}
 use Rattle.brace_pieces.specs.inner.Walks.{steps_from, ticks_from, behind_effects, behind_move}
 use Rattle.brace_pieces.proofs.EpochLemmas.{same_cuts, shown_behind, shown_first, last_ends}
 use Rattle.brace_pieces.proofs.WalkLemmas.{next_in, next_is, is_low, no_tick, first_of_tick, first_behind_tick}
-use Rattle.brace_part.specs.declared.standing.Stance.{Stance}
-use Rattle.brace_part.specs.declared.standing.Stance.TheVariants.{Owns, Leaves}
-use Rattle.brace_part.specs.Parts.{own_under, own_before, found_in_work}
-use Rattle.brace_part.specs.inner.Ready.{own_in, IsReadyFor, IsReady, IsReadyBehind, IsNextAt, next_behind, IsFaultlessBefore, IsFaultlessAt}
+use Rattle.brace_herd.specs.declared.stance.Stance.{Stance}
+use Rattle.brace_herd.specs.declared.stance.Stance.TheVariants.{Owns, Leaves}
+use Rattle.brace_herd.specs.Works.{own_under, own_before, found_in_work}
+use Rattle.brace_herd.specs.Ready.{own_in, IsReadyFor, IsReadyBehind}
+use Rattle.brace_part.specs.inner.Ready.{IsReady, IsNextAt, next_behind, IsFaultlessBefore, IsFaultlessAt}
 use Rattle.brace_pieces.proofs.StepLemmas.{OfRun, of_run}
 use Rattle.brace_pieces.proofs.Childless.{no_birth_faults, same_next, none_have, none_born}
 use Rattle.brace_pieces.proofs.OnLemmas.{on_next}

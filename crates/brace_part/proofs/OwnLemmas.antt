@@ -4,12 +4,14 @@ use Rattle.brace_pieces.specs.declared.setting.Setting.{Setting}
 use Rattle.brace_pieces.specs.declared.setting.Stage.{Stage}
 use Rattle.brace_pieces.specs.declared.setting.Stage.TheVariants as stage
 use Rattle.brace_pieces.specs.declared.setting.Step.{Step}
-use Rattle.brace_part.specs.declared.standing.Stance.{Stance}
-use Rattle.brace_part.specs.declared.standing.Stance.TheVariants.{Owns}
-use Rattle.brace_part.specs.Parts.{own_before, own_at, is_settled, IsSettled}
-use Rattle.brace_part.specs.inner.Ready.{IsReadyFor, IsReady}
+use Rattle.brace_herd.specs.declared.stance.Stance.{Stance}
+use Rattle.brace_herd.specs.declared.stance.Stance.TheVariants.{Owns}
+use Rattle.brace_herd.specs.Works.{own_before}
+use Rattle.brace_part.specs.Parts.{own_at, is_settled, IsSettled}
+use Rattle.brace_herd.specs.Ready.{IsReadyFor}
+use Rattle.brace_part.specs.inner.Ready.{IsReady}
 use Rattle.brace_part.specs.inner.Sound.{owns_in}
-use Rattle.brace_part.proofs.CellLemmas.{stored_are}
+use Rattle.brace_herd.proofs.CellLemmas.{stored_are}
 
 module _ (s : Setting) (p : ℕ) where
   owns_for : (st : Stage) (t : ℕ) (stance : Stance) → is_settled st → IsReadyFor s p st t stance

@@ -18,17 +18,17 @@ use Rattle.brace_pieces.specs.Courses.{OnCourse, met_in, step_of, others_of}
 use Rattle.brace_pieces.proofs.CourseLemmas.{kept_more}
 use Rattle.brace_part.specs.declared.standing.Standing.{Standing}
 use Rattle.brace_part.specs.Parts.{keeps_at, keeps_before, brings_to, brings_at}
-use Rattle.brace_part.specs.declared.counts.Counts.{Counts}
-use Rattle.brace_part.specs.Given.{counts_behind, counts_up_to}
-use Rattle.brace_part.specs.inner.Pieces.{counted, AreOut, AreTaken}
-use Rattle.brace_part.specs.inner.Pieces.AreOut.{none_out, more_out}
-use Rattle.brace_part.specs.inner.Pieces.AreTaken.{none_taken}
+use Rattle.brace_pieces.specs.declared.counts.Counts.{Counts}
+use Rattle.brace_pieces.specs.Given.{counts_behind, counts_up_to}
+use Rattle.brace_pieces.specs.Exchanged.{counted, AreOut, AreTaken}
+use Rattle.brace_pieces.specs.Exchanged.AreOut.{none_out, more_out}
+use Rattle.brace_pieces.specs.Exchanged.AreTaken.{none_taken}
 use Rattle.brace_part.specs.inner.Ready.{IsReady, IsNextAt, IsFaultlessAt, IsFaultlessBefore}
 use Rattle.brace_part.specs.inner.Sound.{GoesOn}
 use Rattle.brace_pieces.proofs.StepLemmas.{of_run}
-use Rattle.brace_part.proofs.OutLemmas.{right_in}
+use Rattle.brace_pieces.proofs.OutLemmas.{right_in}
 use Rattle.brace_part.proofs.ShownLemmas.{kept_is_shown}
-use Rattle.brace_part.proofs.CountLemmas.{counts_end, counts_showing, counts_exchanging}
+use Rattle.brace_pieces.proofs.CountLemmas.{counts_end, counts_showing, counts_exchanging}
 use Rattle.brace_num.proofs.Lists.{filter_none}
 use Rattle.brace_num.proofs.Rows.{row_alike}
 

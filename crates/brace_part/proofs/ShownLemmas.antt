@@ -18,7 +18,8 @@ use Rattle.brace_pieces.specs.Right as right
 use Rattle.brace_pieces.specs.inner.Walks.{steps_from, behind_effects}
 use Rattle.brace_pieces.proofs.EpochLemmas.{row_one, from_one, from_first, since, same_from}
 use Rattle.brace_pieces.proofs.WalkLemmas.{next_in, next_is}
-use Rattle.brace_part.specs.Parts.{own_under, noted, kept_at, keeps_before, brings_to, brings_at}
+use Rattle.brace_herd.specs.Works.{own_under}
+use Rattle.brace_part.specs.Parts.{noted, kept_at, keeps_before, brings_to, brings_at}
 use Rattle.brace_pieces.proofs.StepLemmas.{OfRun, of_run}
 use Rattle.brace_part.proofs.NextLemmas.{begins, reaches, behind_low, by_births}
 use Rattle.brace_num.proofs.Rows.{row_alike, in_row}

@@ -1,5 +1,5 @@
 -- A part is sound behind each of its turns.
-use Rattle.std.proofs.Common.{◌≡◌, ◌∙◌, refl, sym, ap, subst, ℕ, suc, ◌+◌, ◌-◌, ◌*◌, ◌<◌, ◌≤◌, List, [], ◌∷◌, ◌++◌, take, drop, length, get_or, filter, Bool, false, cond, Option, Some, None, arith}
+use Rattle.std.proofs.Common.{◌≡◌, ◌∙◌, refl, sym, ap, subst, ℕ, suc, ◌+◌, ◌-◌, ◌<◌, ◌≤◌, List, [], ◌∷◌, ◌++◌, take, drop, length, get_or, filter, Bool, false, cond, Option, Some, None, arith}
 use Rattle.std.specs.List.{range_with_len}
 use Rattle.std.proofs.lemmas.List.{length-append, length-take-le, drop_all}
 use Rattle.brace_core.specs.declared.name.Name.{Name}
@@ -11,19 +11,20 @@ use Rattle.brace_pieces.specs.declared.piece.Shown.{Shown}
 use Rattle.brace_pieces.specs.Settings.{parts}
 use Rattle.brace_pieces.specs.Steps.{meet}
 use Rattle.brace_pieces.specs.Right.{IsRight}
-use Rattle.brace_pieces.specs.Courses.{OnCourse, met_in, step_of, others_of, gone_on}
-use Rattle.brace_pieces.proofs.CourseLemmas.{goes_within, course_within}
-use Rattle.brace_part.specs.declared.counts.Counts.{Counts}
-use Rattle.brace_part.specs.declared.query.Queries.{Queries}
+use Rattle.brace_pieces.specs.declared.turns.Turns.{Turns}
+use Rattle.brace_pieces.specs.Courses.{OnCourse, met_in, step_of, others_of}
+use Rattle.brace_pieces.specs.Turns.{PutsNext, TakesNext, IsTurns}
+use Rattle.brace_pieces.specs.declared.counts.Counts.{Counts}
+use Rattle.brace_herd.specs.declared.query.Queries.{Queries}
 use Rattle.brace_part.specs.declared.standing.Standing.{Standing}
+use Rattle.brace_herd.specs.Workers.{IsPartOf}
 use Rattle.brace_part.specs.Parts.{IsCauseOfAll}
-use Rattle.brace_part.specs.inner.Pieces.{AreOut, AreTaken}
-use Rattle.brace_part.specs.inner.Pieces as pieces
-use Rattle.brace_part.specs.inner.Pieces.AreTaken.{none_taken, more_taken}
+use Rattle.brace_pieces.specs.Exchanged.{AreOut, AreTaken}
+use Rattle.brace_pieces.specs.Exchanged as pieces
+use Rattle.brace_pieces.specs.Exchanged.AreTaken.{none_taken, more_taken}
 use Rattle.brace_part.specs.inner.Ready.{IsReady, IsNextAt, AreKept}
-use Rattle.brace_part.specs.inner.Sound.{GoesOn, IsHalted, IsSound}
-use Rattle.brace_part.proofs.OutLemmas.{puts_last, one_taken}
-use Rattle.brace_pieces.proofs.TurnLemmas.{PutsNext, TakesNext}
+use Rattle.brace_part.specs.inner.Sound.{GoesOn, IsSound}
+use Rattle.brace_pieces.proofs.OutLemmas.{puts_last, one_taken}
 use Rattle.std.proofs.lemmas.List.Elements.{filter-append}
 use Rattle.brace_num.proofs.Rows.{row_kept, row_joined}
 use Rattle.brace_pieces.proofs.ScheduleLemmas.{meets_no_self}
@@ -31,18 +32,18 @@ use Rattle.brace_pieces.proofs.ScheduleLemmas.{meets_no_self}
 abbrev pub one_on : OnCourse → OnCourse
 one_on c = record c { made = c.made + 1 }
 
-pub sound_within : (c : OnCourse) (queries : Queries) (old new : Standing) (was is : Option Cause) (room places : ℕ) → IsSound c queries old was room → c.made < 2 * length (others_of c)
-    → (is ≡ None → GoesOn (one_on c) new) → IsHalted c.setting c.number is → IsCauseOfAll c.setting c.actor c.number is → new.shown ≡ old.shown → places ≡ room → IsSound (gone_on c) queries new is places
-sound_within c queries old new was is room places h low goes halted found shown same =
-    subst (λ d. IsSound d queries new is places) (sym (goes_within c low)) (record {
-      is_part = h.is_part;
-      course = course_within c h.course low;
-      goes_on = goes;
-      halted = halted;
-      found = found;
-      kept = subst (AreKept c.setting c.actor) (sym shown) h.kept;
-      has_room = subst (λ r. parts c.setting ≤ r) (sym same) h.has_room;
-    })
+-- behind a turn that leads to the step of a number, with a cause
+module _ (t u : Turns) (n m : ℕ) (here : u.course ≡ record t.course { number = n; made = m }) (turns : IsTurns u) (o : Option Cause) (same : u.cause ≡ o) where
+  pub sound_at : (queries : Queries) (old new : Standing) (room places : ℕ) → IsSound t queries old room → (o ≡ None → GoesOn (record t.course { number = n; made = m }) new)
+      → IsCauseOfAll t.course.setting t.course.actor n o → AreKept t.course.setting t.course.actor new.shown → places ≡ room → IsSound u queries new places
+  sound_at queries old new room places h goes found kept as_many = record {
+    is_part = subst (λ k. IsPartOf k.setting k.actor queries) (sym here) h.is_part;
+    turns = turns;
+    goes_on = λ none. subst (λ k. GoesOn k new) (sym here) (goes (sym same ∙ none));
+    found = subst (λ k. IsCauseOfAll k.setting k.actor k.number u.cause) (sym here) (subst (IsCauseOfAll t.course.setting t.course.actor n) (sym same) found);
+    kept = subst (λ k. AreKept k.setting k.actor new.shown) (sym here) kept;
+    has_room = subst (λ k. parts k.setting ≤ places) (sym here) (subst (λ r. parts t.course.setting ≤ r) (sym as_many) h.has_room);
+  }
 
 -- what no exchange changes
 abbrev pub kept_of : Standing → List Shown × Counts × ℕ

@@ -5,6 +5,7 @@ use Rattle.std.proofs.lemmas.Bool.{cases_lt}
 use Rattle.std.proofs.lemmas.Bool.Decides.{nat_tests}
 use Rattle.std.proofs.lemmas.List.Elements.{All-nil}
 use Rattle.brace_model.specs.declared.world.Agent.{Agent}
+use Rattle.brace_fold.specs.declared.order.Moved.{Moved}
 use Rattle.brace_fold.specs.Listed.{AreStored}
 use Rattle.brace_pieces.specs.declared.setting.Setting.{Setting}
 use Rattle.brace_pieces.specs.declared.setting.Stage.TheVariants as stage
@@ -15,15 +16,17 @@ use Rattle.brace_pieces.specs.Continued.{continued_after, on}
 use Rattle.brace_pieces.specs.Owned.{owned}
 use Rattle.brace_pieces.specs.inner.Walks.{ticks_from}
 use Rattle.brace_pieces.proofs.WalkLemmas.{no_tick, first_behind_tick}
-use Rattle.brace_part.specs.declared.standing.Stance.{Stance}
-use Rattle.brace_part.specs.declared.standing.Stance.TheVariants.{Owns}
+use Rattle.brace_herd.specs.declared.stance.Stance.{Stance}
+use Rattle.brace_herd.specs.declared.stance.Stance.TheVariants.{Owns}
 use Rattle.brace_part.specs.declared.standing.Standing.{Standing}
-use Rattle.brace_part.specs.Parts.{own_under, kept_at}
-use Rattle.brace_part.specs.Given.{no_counts}
-use Rattle.brace_part.specs.inner.Ready.{IsReady, IsReadyFor, IsNextAt, IsFaultlessAt, AreKept}
+use Rattle.brace_herd.specs.Works.{own_under}
+use Rattle.brace_part.specs.Parts.{kept_at}
+use Rattle.brace_pieces.specs.Given.{no_counts}
+use Rattle.brace_part.specs.inner.Ready.{IsReady, IsNextAt, IsFaultlessAt, AreKept}
+use Rattle.brace_herd.specs.Ready.{IsReadyFor}
 use Rattle.brace_part.specs.inner.Sound.{ComesTo}
 use Rattle.brace_pieces.proofs.EpochLemmas.{shown_first}
-use Rattle.brace_part.proofs.CellLemmas.{stored_are}
+use Rattle.brace_herd.proofs.CellLemmas.{stored_are}
 use Rattle.brace_part.proofs.NextLemmas.{recut_behind, reaches}
 use Rattle.brace_part.proofs.ShownLemmas.{is_noted, first_noted, brings_first}
 use Rattle.brace_part.proofs.ComesLemmas.{note_of, kept_more}
@@ -144,3 +147,16 @@ noted_first s stance shown next same is = subst
 -- what is added to nothing is all
 pub from_none : {A : Type 0} (old new more : List A) → old ≡ [] → new ≡ old ++ more → new ≡ more
 from_none old new more none is = is ∙ ap (λ l. l ++ more) none
+
+-- what is kept of the first tick, by the agents that stand in columns
+abbrev pub kept_of : Setting → List Agent → ℕ → Shown
+kept_of s agents next = record { tick = s.job.first; agents = agents; next = next }
+
+pub kept_own : (s : Setting) (p : ℕ) (own : Moved) (owned : List Agent) (shown : List Shown)
+    (next : ℕ) → AreStored s.job.program (own_under s p (cuts_of s s.job.first) s.job.first) own
+    → owned ≡ own_under s p (cuts_of s s.job.first) s.job.first
+    → shown ≡ (if is_noted s s.job.first then kept_of s owned next ∷ [] else [])
+    → shown ≡ (if is_noted s s.job.first then note_of s s.job.first (Owns own) next ∷ [] else [])
+kept_own s p own owned shown next stored is kept = subst
+    (λ agents. shown ≡ (if is_noted s s.job.first then kept_of s agents next ∷ [] else []))
+    (is ∙ sym (stored_are s.job.program _ own stored)) kept

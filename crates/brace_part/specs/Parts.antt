@@ -1,31 +1,26 @@
 -- A part of the plane as contracts see it: what it owns where it stands, what it keeps to be shown,
--- and which faults it finds in a work.
-use Rattle.std.specs.Prelude.{◌≡◌, ◌⊎◌, ℕ, ◌+◌, ◌-◌, ◌<◌, ◌%◌, ◌==◌, List, [], ◌++◌, map, filter, ◌||◌, if◌then◌else◌, Option, Some, None, slice_get}
+-- and why it goes no further.
+use Rattle.std.specs.Prelude.{◌≡◌, ◌⊎◌, ℕ, ◌+◌, ◌-◌, ◌<◌, ◌%◌, ◌==◌, List, [], map, filter, ◌||◌, if◌then◌else◌, Option, Some, None, slice_get}
 use Rattle.std.specs.List.{range_with_len}
 use Rattle.brace_model.specs.declared.fault.Fault.{Fault}
 use Rattle.brace_model.specs.FaultOrder.{least}
 use Rattle.brace_model.specs.declared.world.Agent.{Agent}
 use Rattle.brace_core.specs.declared.name.Turn.{Turn}
 use Rattle.brace_core.specs.declared.name.Turn.TheVariants.{Work}
-use Rattle.brace_core.specs.Exchanges.{due}
-use Rattle.brace_cuts.specs.declared.space.Cuts.{Cuts}
 use Rattle.brace_pieces.specs.declared.setting.Setting.{Setting}
 use Rattle.brace_pieces.specs.declared.setting.Stage.{Stage}
-use Rattle.brace_pieces.specs.declared.setting.Stage.TheVariants.{Hand, Border, Effects, Census, Move, Show}
+use Rattle.brace_pieces.specs.declared.setting.Stage.TheVariants.{Border, Effects, Census, Move, Show}
 use Rattle.brace_pieces.specs.declared.setting.Step.{Step}
 use Rattle.brace_pieces.specs.declared.piece.Cause.{Cause}
 use Rattle.brace_pieces.specs.declared.piece.Cause.TheVariants as cause
-use Rattle.brace_pieces.specs.declared.piece.Piece.{Piece}
-use Rattle.brace_pieces.specs.declared.piece.Piece.TheVariants.{Halt}
 use Rattle.brace_pieces.specs.declared.piece.Shown.{Shown}
-use Rattle.brace_pieces.specs.Settings.{cuts_of, cuts_shown, is_end, shown_from, shown_ticks}
-use Rattle.brace_pieces.specs.Steps.{schedule, steps}
-use Rattle.brace_pieces.specs.Continued.{on, birth_faults}
-use Rattle.brace_pieces.specs.Owned.{owned}
-use Rattle.brace_pieces.specs.Finds.{queries_found, updates_found}
+use Rattle.brace_pieces.specs.Settings.{is_end, shown_from, shown_ticks}
+use Rattle.brace_pieces.specs.Steps.{steps}
+use Rattle.brace_pieces.specs.Continued.{on}
 use Rattle.brace_pieces.specs.Right.{IsRightCause}
-use Rattle.brace_pieces.specs.Courses.{OnCourse, past_of, step_of, turn_of}
-use Rattle.brace_part.specs.declared.counts.Counts.{Counts}
+use Rattle.brace_pieces.specs.Courses.{OnCourse, step_of, turn_of}
+use Rattle.brace_pieces.specs.declared.counts.Counts.{Counts}
+use Rattle.brace_herd.specs.Works.{own_before, found_in_work}
 
 -- a part: where it stands in the schedule of its setting, the agents that it owns there, what it
 -- keeps to be shown, why it goes no further, and how much it gave
@@ -35,10 +30,6 @@ pub record OnPart : Type 0 where
   pub shown : List Shown
   pub cause : Option Cause
   pub counts : Counts
-
--- the turn that its schedule has for one on a course next
-abbrev pub due_on : OnCourse → Turn
-due_on c = due schedule c.setting c.actor (past_of c)
 
 -- the tick whose query is evaluated in the work of a step, if one is
 abbrev pub tick_asked : Stage → ℕ → Option ℕ
@@ -53,17 +44,6 @@ asked_in _ _ _ = None
 -- the tick whose query a part evaluates in its next turn, if it evaluates one there
 abbrev pub asks_next : OnPart → Option ℕ
 asks_next p = asked_in p.cause (turn_of p.course) (step_of p.course)
-
--- the agents of a part in the world of a tick, under some cuts
-abbrev pub own_under : Setting → ℕ → Cuts → ℕ → List Agent
-own_under s p cuts tick = owned s.job.program cuts p (on s tick).agents
-
--- the agents that a part owns before it makes a step: where other cuts begin to hold those under
--- the cuts before
-abbrev pub own_before : Setting → ℕ → Stage → ℕ → List Agent
-own_before s p Hand tick = own_under s p (cuts_of s (tick - 1)) tick
-own_before s p Show tick = own_under s p (cuts_shown s tick) tick
-own_before s p _ tick = own_under s p (cuts_of s tick) tick
 
 -- the agents that a part owns where a step is next, or where none is left
 abbrev pub own_at : Setting → ℕ → Option Step → List Agent
@@ -117,30 +97,6 @@ abbrev pub StillShows : OnPart → OnPart → Type 0
 StillShows old new = (new.shown ≡ old.shown)
     ⊎ ((old.cause ≡ None)
     × (new.shown ≡ brings_at new.course.setting new.course.actor (step_of new.course)))
-
--- the faults that a part finds in the work of a step
-abbrev pub found_in_work : Setting → ℕ → Stage → ℕ → List Fault
-found_in_work s p Border tick =
-    queries_found s tick p (on s tick).agents
-    ++ (if s.invert then updates_found s tick p (on s tick).agents else [])
-found_in_work s p Effects tick = updates_found s tick p (on s tick).agents
-found_in_work s p Census tick = birth_faults s tick (on s tick)
-found_in_work s p _ tick = []
-
--- the cause that a work gives to a part that went on: the least of the faults that it finds
-abbrev pub cause_of : Option Fault → Option Cause
-cause_of None = None
-cause_of (Some f) = Some (cause.Fault f)
-
--- a cause is that of these faults, or memory was refused
-abbrev pub IsCauseOf : List Fault → Cause → Type 0
-IsCauseOf found c = (Some c ≡ cause_of (least found)) ⊎ (c ≡ cause.NoMemory)
-
--- the cause of a part that took a piece: its own, else that of the piece
-abbrev pub cause_behind : Option Cause → Piece → Option Cause
-cause_behind (Some c) piece = Some c
-cause_behind None (Halt c) = Some c
-cause_behind None _ = None
 
 -- a part that found faults in the work of the step of a number has the least of them as its cause,
 -- or one that is right in that step

@@ -3,23 +3,7 @@
 //! the agents that it owns, and shows these to the publisher.
 #![tactic(auto)]
 
-mod asking;
-mod census;
-mod counts;
-mod gather;
-mod holding;
-mod joining;
-pub mod laws;
-mod near;
-mod packing;
 mod part;
-mod places;
-mod prepare;
-mod query;
 mod standing;
-mod tell;
-mod update;
-mod work;
 
-pub use counts::Counts;
 pub use part::Part;

@@ -14,24 +14,22 @@ ghost use Rattle.brace_pieces.specs.declared.piece.Cause.TheVariants as cause;
 ghost use Rattle.brace_pieces.specs.declared.piece.Piece.TheVariants as piece;
 ghost use Rattle.brace_pieces.specs.Settings.{LawfulSetting, parts, is_end, cuts_of};
 ghost use Rattle.brace_pieces.specs.Right.{IsRight, IsRightCause};
-ghost use Rattle.brace_pieces.specs.Courses.{OnCourse, IsCourse, at_start, step_of, gone_on, past_of};
-ghost use Rattle.brace_part.specs.Parts.{due_on, own_under, own_at, IsSettled, keeps_at, found_in_work, IsCauseOf, IsCauseOfAll, cause_of, cause_behind, asks_next, brings_at, StillShows};
-ghost use Rattle.brace_part.specs.Given.{counts_up_to};
+ghost use Rattle.brace_pieces.specs.Courses.{OnCourse, IsCourse, at_start, due_on, step_of, gone_on, past_of};
+ghost use Rattle.brace_pieces.specs.Turns.{cause_behind};
+ghost use Rattle.brace_herd.specs.Works.{own_under, found_in_work, IsCauseOf, cause_of};
+ghost use Rattle.brace_part.specs.Parts.{own_at, IsSettled, keeps_at, IsCauseOfAll, asks_next, brings_at, StillShows};
+ghost use Rattle.brace_pieces.specs.Given.{counts_up_to};
 ghost use Rattle.brace_part.specs.inner.Ready.{AreKept, next_behind};
-ghost use Rattle.brace_part.specs.inner.Sound.{IsPartOf, IsAtWork, ComesTo, GoesOn, owns_in};
+ghost use Rattle.brace_herd.specs.Workers.{IsPartOf};
+ghost use Rattle.brace_part.specs.inner.Sound.{IsAtWork, ComesTo, GoesOn, owns_in};
 
-use crate::counts::Counts;
-use crate::near::listed;
-use crate::packing::packed;
-use crate::prepare::{prepared, prepared_show};
-use crate::query::Queries;
-use crate::standing::{Stance, Standing};
-use crate::work::Worker;
+use crate::standing::Standing;
 use brace_core::{Actor, Turn};
 use brace_fold::{Moved, Redo};
+use brace_herd::{Queries, Stance, Worker, listed, packed, prepared, prepared_show};
 use brace_model::{Agent, Herd, Program};
 use brace_num::{List, NoMemory};
-use brace_pieces::{Cause, Course, Piece, Setting, Shown, Stage, Step};
+use brace_pieces::{Cause, Counts, Course, Piece, Setting, Shown, Stage, Step, Turns};
 use std::alloc::Global;
 use std::marker::Model;
 use std::mem;
@@ -41,12 +39,9 @@ use std::mem;
 #[derive(Drop)]
 pub struct Part<'a> {
     alloc: Global,
-    course: Course<'a>,
+    turns: Turns<'a>,
     queries: Queries,
     standing: Standing,
-    /// Agents that are not needed any more: guests of a tick.
-    used: Vec<Agent>,
-    cause: Option<Cause>,
 }
 
 impl<'a> Model for Part<'a> {
@@ -63,15 +58,41 @@ impl<'a> Model for Part<'a> {
     ghost coded = { Prim.hlevel (codes, expr.the_row.coded, stmt.the_row.coded) };
 
     ghost view = { λ p. record {
-      course = p.course;
-      owns = owns_in p.course.setting.job.program p.standing.stance;
+      course = p.turns.course;
+      owns = owns_in p.turns.course.setting.job.program p.standing.stance;
       shown = p.standing.shown;
-      cause = p.cause;
+      cause = p.turns.cause;
       counts = p.standing.counts;
     } };
 
-    ghost invariant = { λ p. IsSound p.course p.queries p.standing p.cause
+    ghost invariant = { λ p. IsSound p.turns p.queries p.standing
         (vec_capacity p.standing.taken) };
+}
+
+/// Whether the world of a tick is shown.
+fn is_shown(setting: &Setting, tick: u64) -> bool
+    ensures { result ≡ (is_end setting.now tick || (tick % setting.now.job.every == 0)) }
+{
+    setting.is_end(tick) || tick.is_multiple_of(setting.job.every)
+}
+
+/// Keeps a part's agents of the first tick, where they are shown.
+fn keep(
+    setting: &Setting,
+    tick: u64,
+    agents: Herd,
+    next: u64,
+    shown: &mut List<Shown>,
+) -> Result<(), NoMemory>
+    ensures noted { IfOk result (λ _. shown.new ≡ shown.old
+        ++ (if is_end setting.now tick || (tick % setting.now.job.every == 0)
+        then record { tick = tick; agents = agents; next = next } ∷ []
+        else [])) }
+{
+    if is_shown(setting, tick) {
+        shown.push(Shown { tick, agents, next })?;
+    }
+    Ok(())
 }
 
 /// Keeps a part's agents of a tick, where they are shown.
@@ -93,7 +114,7 @@ fn note(
         else [])) }
     ensures kept { IfErr result (λ _. shown.new ≡ shown.old) }
 {
-    if setting.is_end(tick) || tick.is_multiple_of(setting.job.every) {
+    if is_shown(setting, tick) {
         let agents = herd_in(alloc, &setting.job.program, stance)?;
         shown.push(Shown { tick, agents, next })?;
     }
@@ -148,7 +169,7 @@ fn herd_in(alloc: Global, program: &Program, stance: &Stance) -> Result<Herd, No
 }
 
 /// Agents in columns, from which they can be read.
-fn in_columns(alloc: Global, program: &Program, agents: &[Agent]) -> Result<Moved, NoMemory>
+fn in_columns(alloc: Global, program: &Program, agents: &Herd) -> Result<Moved, NoMemory>
     requires { IsTrue (list_all (is_lawful_agent program.now) agents.now) }
     ensures { IfOk result (AreListed program.now agents.now) }
 {
@@ -172,7 +193,6 @@ fn prepare(
     alloc: Global,
     course: &Course,
     queries: &Queries,
-    used: &mut Vec<Agent>,
     standing: &mut Standing,
 ) -> Result<(), NoMemory>
     requires part { IsPartOf course.now.setting course.now.actor queries.now }
@@ -204,7 +224,7 @@ fn prepare(
         next: standing.next,
     };
     let counts = &mut standing.counts;
-    standing.out = prepared(&worker, at, &standing.stance, course.others(), used, counts)?;
+    standing.out = prepared(&worker, at, &standing.stance, course.others(), counts)?;
     Ok(())
 }
 
@@ -215,7 +235,6 @@ fn advance(
     queries: &Queries,
     number: u64,
     at: Step,
-    used: &mut Vec<Agent>,
     standing: &mut Standing,
 ) -> Result<(), Cause>
     requires part { IsPartOf course.now.setting course.now.actor queries.now }
@@ -244,11 +263,11 @@ fn advance(
     };
     standing.next = next_behind(at, &standing.stance, standing.next);
     let stance = mem::replace(&mut standing.stance, nothing(alloc));
-    standing.stance = worker.worked(at, stance, &mut standing.taken, used)?;
+    standing.stance = worker.worked(at, stance, &mut standing.taken)?;
     let (stance, shown) = (&standing.stance, &mut standing.shown);
     note_next(alloc, course.setting(), at, stance, standing.next, shown)?;
     standing.taken.clear();
-    prepare(alloc, course, queries, used, standing)?;
+    prepare(alloc, course, queries, standing)?;
     Ok(())
 }
 
@@ -260,11 +279,11 @@ impl<'a> Part<'a> {
         alloc: Global,
         setting: &'a Setting,
         p: u32,
-        owned: Vec<Agent>,
+        owned: Herd,
     ) -> Result<Part<'a>, NoMemory>
         requires lawful { LawfulSetting setting.now }
         requires is_part { p < parts setting.now }
-        requires owns { owned.items ≡ own_under setting.now p
+        requires owns { owned ≡ own_under setting.now p
             (cuts_of setting.now setting.now.job.first) setting.now.job.first }
         ensures start { IfOk result (λ part. part.course ≡ at_start setting.now p) }
         ensures goes_on { IfOk result (λ part. part.cause ≡ None) }
@@ -282,25 +301,18 @@ impl<'a> Part<'a> {
             counts: Counts::none(),
         };
         if course.step().is_some() {
-            let (stance, shown) = (&standing.stance, &mut standing.shown);
-            note(
-                alloc,
-                setting,
-                setting.job.first,
-                stance,
-                standing.next,
-                shown,
-            )?;
+            let (next, shown) = (standing.next, &mut standing.shown);
+            keep(setting, setting.job.first, owned, next, shown)?;
         }
-        let mut used = Vec::new(alloc);
-        prepare(alloc, &course, &queries, &mut used, &mut standing)?;
+        prepare(alloc, &course, &queries, &mut standing)?;
         Ok(Part {
             alloc,
-            course,
+            turns: Turns {
+                course,
+                cause: None,
+            },
             queries,
             standing,
-            used,
-            cause: None,
         })
     }
 
@@ -311,7 +323,7 @@ impl<'a> Part<'a> {
             → self.now.owns ≡ own_at self.now.course.setting self.now.course.actor
             (step_of self.now.course) }
     {
-        let program = &self.course.setting().job.program;
+        let program = &self.turns.course.setting().job.program;
         let own = herd_in(alloc, program, &self.standing.stance)?;
         Ok(List::from_vec(own.agents()?))
     }
@@ -343,10 +355,10 @@ impl<'a> Part<'a> {
     pub fn query_tick(&self) -> Option<u64>
         ensures { result ≡ asks_next self.now }
     {
-        if self.cause.is_some() {
+        if self.turns.cause.is_some() {
             return None;
         }
-        match (self.course.turn(), self.course.step()) {
+        match (self.turns.course.turn(), self.turns.course.step()) {
             (Turn::Work, Some(at)) if at.stage == Stage::Border => Some(at.tick),
             _ => None,
         }
@@ -362,7 +374,7 @@ impl<'a> Part<'a> {
             self.now.course.number self.now.cause }
         ensures course { IsCourse self.now.course }
     {
-        self.cause
+        self.turns.cause
     }
 }
 
@@ -380,7 +392,7 @@ impl<'a> Actor<Piece> for Part<'a> {
     ghost past = { λ part. past_of part.course };
 
     fn next(&self, end: u64) -> Turn {
-        self.course.turn_to(end)
+        self.turns.course.turn_to(end)
     }
 
     fn piece(&mut self) -> Piece
@@ -398,8 +410,8 @@ impl<'a> Actor<Piece> for Part<'a> {
         ensures halts { (c : Cause) → self.old.cause ≡ Some c → result ≡ piece.Halt c }
         ensures tells { self.old.cause ≡ None → (c : Cause) → result ≡ piece.Halt c → ⊥ }
     {
-        self.course.go_on();
-        match self.cause {
+        self.turns.put();
+        match self.turns.cause {
             Some(cause) => Piece::Halt(cause),
             None => match self.standing.out.pop() {
                 Some(piece) => piece,
@@ -421,15 +433,12 @@ impl<'a> Actor<Piece> for Part<'a> {
         ensures same_setting { self.new.course.setting ≡ self.old.course.setting }
         ensures same_number { self.new.course.actor ≡ self.old.course.actor }
     {
-        self.course.go_on();
-        if self.cause.is_some() {
-            // Its own cause came first, and no piece is of use behind it.
+        self.turns.take(&piece);
+        if self.turns.cause.is_some() {
+            // No piece is of use behind a cause.
             return;
         }
-        match piece {
-            Piece::Halt(cause) => self.cause = Some(cause),
-            piece => self.standing.taken.push_reserved(piece),
-        }
+        self.standing.taken.push_reserved(piece);
     }
 
     fn work(&mut self)
@@ -444,26 +453,16 @@ impl<'a> Actor<Piece> for Part<'a> {
             self.old.course.actor at.stage at.tick))) ⊎ (self.new.cause ≡ Some cause.NoMemory) }
         ensures still { (c : Cause) → self.new.cause ≡ Some c → StillShows self.old self.new }
     {
-        let at = self.course.step();
-        let number = self.course.number();
-        self.course.go_on();
-        if self.cause.is_some() {
+        let number = self.turns.course.number();
+        let at = self.turns.work();
+        if self.turns.cause.is_some() {
             return;
         }
-        if let Some(at) = at {
-            let (course, queries) = (&self.course, &self.queries);
-            let worked = advance(
-                self.alloc,
-                course,
-                queries,
-                number,
-                at,
-                &mut self.used,
-                &mut self.standing,
-            );
-            if let Err(cause) = worked {
-                self.cause = Some(cause);
-            }
+        let (course, queries) = (&self.turns.course, &self.queries);
+        let standing = &mut self.standing;
+        let worked = advance(self.alloc, course, queries, number, at, standing);
+        if let Err(cause) = worked {
+            self.turns.cause = Some(cause);
         }
     }
 }

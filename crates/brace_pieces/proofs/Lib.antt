@@ -37,3 +37,10 @@ pub mod LanesFor
 pub mod CensusRows
 pub mod StepLemmas
 pub mod TurnLemmas
+pub mod OutLemmas
+pub mod KindLemmas
+pub mod HaltRight
+pub mod SumLemmas
+pub mod CountLemmas
+pub mod GaveLemmas
+pub mod AllGave

@@ -3,10 +3,11 @@ use Rattle.std.specs.Prelude.{ℕ, ◌+◌, ◌*◌, ◌<◌, ◌≤◌, List, [
 use Rattle.brace_core.specs.declared.name.Turn.{Turn}
 use Rattle.brace_core.specs.declared.name.Turn.TheVariants.{Work, Done}
 use Rattle.brace_core.specs.Schedule.{puts, takes}
+use Rattle.brace_core.specs.Exchanges.{due}
 use Rattle.brace_pieces.specs.declared.setting.Setting.{Setting}
 use Rattle.brace_pieces.specs.declared.setting.Step.{Step}
 use Rattle.brace_pieces.specs.Settings.{parts}
-use Rattle.brace_pieces.specs.Steps.{steps, met}
+use Rattle.brace_pieces.specs.Steps.{schedule, steps, met}
 
 -- where an actor of a run stands: in which step, by its place in the run's steps, and behind how
 -- many of its turns in that step
@@ -54,6 +55,10 @@ turns_in s p at = 2 * length (met s at p) + 1
 -- how many turns it made: those of all steps before, and those of this one
 abbrev pub past_of : OnCourse → ℕ
 past_of c = sum_by (turns_in c.setting c.actor) (take c.number (steps c.setting)) + c.made
+
+-- the turn that its schedule has for it next
+abbrev pub due_on : OnCourse → Turn
+due_on c = due schedule c.setting c.actor (past_of c)
 
 -- where it stands behind a turn: behind its work before all turns of the next step
 abbrev pub gone_behind : OnCourse → Turn → OnCourse

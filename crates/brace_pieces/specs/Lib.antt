@@ -9,7 +9,10 @@ pub mod Right
 pub mod Censuses
 pub mod Heard
 pub mod Counts
+pub mod Given
 pub mod Halts
 pub mod Courses
+pub mod Turns
+pub mod Exchanged
 pub mod Fronts
 pub mod inner

@@ -34,6 +34,8 @@ ghost use Rattle.brace_pieces.specs.Right.{IsRight, IsRightCause, IsTold, Stands
 ghost use Rattle.brace_pieces.specs.Censuses.{IsCounted, fault_told, bearing};
 ghost use Rattle.brace_pieces.specs.Heard.{own, near, said_here, heard, joined, found_here, IsShareOf, IsPartOver};
 ghost use Rattle.brace_pieces.specs.Halts.{FollowsFirst};
+ghost use Rattle.brace_pieces.specs.Counts.{count_border, count_effects, count_moved, count_handed};
+ghost use Rattle.brace_pieces.specs.Given.{all_given};
 ghost use Rattle.brace_pieces.specs.Courses.{OnCourse, IsCourse, at_start, turn_of, past_of, gone_on};
 
 /// In the schedule of a run each pair that meets is of two different actors, meets both ways, and
@@ -248,4 +250,18 @@ pub fn courses_are_the_turns()
         → past_of (gone_on c) ≡ past_of c + 1 }
     ensures course { (c : OnCourse) → IsCourse c → (turn_of c ≡ Done → ⊥)
         → IsCourse (gone_on c) }
+{}
+
+/// Where a run has a world in each tick, all that its parts give in all steps is
+/// what the whole worlds say: parts that do not meet would give each other nothing.
+pub fn counts_are_the_runs()
+    ensures { (s : Setting) → LawfulSetting s → NumbersFit s
+        → ((t : ℕ) → s.job.first ≤ t → t ≤ s.job.last
+        → world_after s.job (t - s.job.first) ≡ Ok (on s t))
+        → all_given s ≡ record {
+          border = count_border s;
+          effects = count_effects s;
+          moved = count_moved s;
+          handed = count_handed s;
+        } }
 {}

@@ -1,4 +1,4 @@
-ghost use Rattle.std.specs.Prelude.{◌≡◌, ◌<◌, pos, ◌-ℤ◌, length, filter, option_map, slice_index_or, IfOk};
+ghost use Rattle.std.specs.Prelude.{◌≡◌, ◌<◌, pos, ◌-ℤ◌, length, map, filter, option_map, slice_index_or, IfOk};
 ghost use Rattle.std.specs.Int.{int_max};
 ghost use Rattle.brace_num.specs.Areas.{outside, gap_to};
 ghost use Rattle.brace_cuts.specs.Space.{LawfulCuts};
@@ -152,26 +152,47 @@ fn owns_at(program: &Program, cuts: &Cuts, p: u32, agents: &Herd, place: usize) 
     }
 }
 
+/// The places of those agents of a herd that a part owns under some cuts.
+fn owned_places(
+    alloc: Global,
+    program: &Program,
+    cuts: &Cuts,
+    p: u32,
+    agents: &Herd,
+) -> Result<Vec<u32>, NoMemory>
+    requires { LawfulCuts cuts.now }
+    ensures { IfOk result (λ places. (d : Agent)
+        → map (λ place. slice_index_or agents.now place d) places.items
+        ≡ owned program.now cuts.now p agents.now) }
+{
+    let Ok(count) = u32::try_from(agents.len()) else {
+        return Err(NoMemory);
+    };
+    let mut places = Vec::new(alloc);
+    for place in 0..count {
+        if owns_at(program, cuts, p, agents, place as usize) {
+            places.push(place)?;
+        }
+    }
+    Ok(places)
+}
+
 /// Of the agents of a herd those that belong to a part under the cuts that hold from a tick on, by
-/// rising id where theirs rise. No other agent is unpacked.
+/// rising id where theirs rise.
 pub fn owned_of(
     alloc: Global,
     setting: &Setting,
     tick: u64,
     agents: &Herd,
     to: u32,
-) -> Result<List<Agent>, NoMemory>
+) -> Result<Herd, NoMemory>
     requires { IsPlan setting.now.epoch setting.now.cuts }
     ensures theirs { IfOk result (λ found. found
         ≡ owned setting.now.job.program (cuts_of setting.now tick) to agents.now) }
 {
     let cuts = setting.cuts.cuts_at(tick);
-    let mut found = List::new(alloc);
-    for place in 0..agents.len() {
-        if owns_at(&setting.job.program, cuts, to, agents, place) {
-            found.push(agents.agent(place, agents.no_values())?)?;
-        }
-    }
+    let places = owned_places(alloc, &setting.job.program, cuts, to, agents)?;
+    let found = agents.picked(alloc, &places)?;
     Ok(found)
 }
 

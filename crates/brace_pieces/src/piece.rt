@@ -3,7 +3,7 @@ ghost use Rattle.std.specs.Prelude.{◌≡◌};
 use crate::Setting;
 use brace_comb::Entry;
 use brace_core::Freight;
-use brace_model::{Agent, Census, Fault, Herd};
+use brace_model::{Census, Fault, Herd};
 use brace_num::{List, NoMemory};
 
 /// The agents of a part in the world of a tick.
@@ -40,12 +40,12 @@ impl From<NoMemory> for Cause {
 /// What one part, or the publisher, hands to another in a step. Agents stand by rising id.
 #[derive(Debug, Drop)]
 pub enum Piece {
-    Border(List<Agent>),
+    Border(Herd),
     /// By rising target, then field.
     Effects(List<Entry>),
     Census(Census),
-    Move(List<Agent>),
-    Hand(List<Agent>),
+    Move(Herd),
+    Hand(Herd),
     /// By rising tick.
     Show(List<Shown>),
     /// The publisher took what was shown.

@@ -1,7 +1,10 @@
 -- Facts on appended text and on fields parted by a byte.
-use Rattle.std.proofs.Common.{◌≡◌, ℕ, List, [], ◌∷◌, ◌++◌, length, take, map, flat_map, ap, sym, refl, ◌∙◌, append-nil, append_assoc}
+use Rattle.std.proofs.Common.{◌≡◌, ◌<◌, ◌+◌, ℕ, List, [], ◌∷◌, ◌++◌, length, take, map, flat_map, ap, sym, refl, ◌∙◌, append-nil, append_assoc}
+use Rattle.std.specs.Prelude.{slice_get, Some}
 use Rattle.std.specs.List.{join_with_byte}
 use Rattle.std.proofs.Math.Seq.{take-append_seam}
+use Rattle.std.proofs.lemmas.List.{flat_map_more, take_more}
+use Rattle.std.proofs.lemmas.Option.{get_or_from_slice_get}
 use Rattle.brace_num.specs.Spelling.{canonical_count}
 use Rattle.brace_model.specs.declared.program.Value.{Value}
 use Rattle.brace_model.specs.declared.program.Program.{Program}
@@ -26,3 +29,13 @@ agent_appended program a out named parted counted printed name values n v e₁ e
     let all : (((out ++ name) ++ 44 ∷ []) ++ canonical_count a.id) ++ flat_map (λ v. 44 ∷ spelled v) values ≡ out ++ (name ++ (44 ∷ (canonical_count a.id ++ flat_map (λ v. 44 ∷ spelled v) values))) = simp append_assoc in
     e₄ ∙ ap (λ s. s ++ flat_map (λ v. 44 ∷ spelled v) values) (e₃ ∙ ap (λ s. s ++ canonical_count a.id) (e₂ ∙ ap (λ s. s ++ 44 ∷ []) e₁))
     ∙ all ∙ rw (n, v, j) refl
+
+-- the texts of the first agents of a list, and of the one behind them
+pub texts_more : (text : Agent → List ℕ) (first : List ℕ) (agents : List Agent) (place : ℕ) (a : Agent)
+    → place < length agents → slice_get agents place ≡ Some a
+    → (first ++ flat_map text (take place agents)) ++ text a ≡ first ++ flat_map text (take (place + 1) agents)
+texts_more text first agents place a low is =
+    flat_map_more text first (take place agents) a
+    ∙ ap (λ (l : List Agent). first ++ flat_map text l)
+    (ap (λ (x : Agent). take place agents ++ x ∷ []) (sym (get_or_from_slice_get agents place a a is))
+    ∙ sym (take_more agents place a low))

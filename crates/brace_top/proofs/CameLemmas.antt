@@ -10,54 +10,53 @@ use Rattle.brace_io.specs.declared.sink.Sink as sink_trait
 use Rattle.brace_io.specs.Counts.{Rose}
 use Rattle.brace_io.specs.Shelves.{Files, Stage, StoppedAt}
 use Rattle.brace_io.specs.Sinks.{with_piece, Gains, GainsFront}
-use Rattle.brace_model.specs.declared.fault.Fault.{Fault as RunFault}
 use Rattle.brace_model.specs.declared.program.Program.{Program}
 use Rattle.brace_model.specs.World.{World}
 use Rattle.brace_model.specs.Run.{first_fault}
 use Rattle.brace_pieces.specs.declared.setting.Setting.{Setting}
 use Rattle.brace_pieces.specs.Settings.{LawfulSetting}
-use Rattle.brace_part.specs.declared.counts.Counts.{Counts}
+use Rattle.brace_pieces.specs.declared.counts.Counts.{Counts}
 use Rattle.brace_crew.specs.declared.crew.CrewFault.{CrewFault}
 use Rattle.brace_crew.specs.declared.crew.CrewFault.TheVariants as crew
-use Rattle.brace_crew.specs.declared.publisher.Publisher as publisher
-use Rattle.brace_crew.specs.declared.publisher.PubFault.{PubFault}
-use Rattle.brace_crew.specs.declared.publisher.PubFault.TheVariants as refusal
-use Rattle.brace_crew.specs.declared.watch_publisher.WatchPublisher.{WatchPublisher}
-use Rattle.brace_crew.specs.declared.keeper.Keeper as keeper_trait
-use Rattle.brace_crew.specs.Calls.{Call, calls, behind, CameBy, CameTo, Rises}
-use Rattle.brace_crew.specs.Calls as crews
-use Rattle.brace_crew.specs.Filed.{Filed, with_file, held_after, with_rows, StopsAt, StopsAtAny, WroteFront, StoppedSaving, after_epoch}
-use Rattle.brace_crew.specs.Refusals.{tick_of}
-use Rattle.brace_crew.specs.Shows.{Named, shown_text, file_name, checkpoint_file, saved_file, saved_world}
-use Rattle.brace_crew.specs.Watched.{Watching, figures_text, watched_file, figures_file, after_watched, IsCut}
+use Rattle.brace_desk.specs.declared.publisher.Publisher as publisher
+use Rattle.brace_desk.specs.declared.publisher.PubFault.{PubFault}
+use Rattle.brace_desk.specs.declared.publisher.PubFault.TheVariants as refusal
+use Rattle.brace_desk.specs.declared.watch_publisher.WatchPublisher.{WatchPublisher}
+use Rattle.brace_desk.specs.declared.keeper.Keeper as keeper_trait
+use Rattle.brace_desk.specs.Calls.{Call, calls, behind, Rises}
+use Rattle.brace_crew.specs.Came.{CameBy, CameTo}
+use Rattle.brace_desk.specs.Calls as crews
+use Rattle.brace_desk.specs.Filed.{Filed, with_file, held_after, with_rows, StopsAt, StopsAtAny, WroteFront, StoppedSaving, after_epoch}
+use Rattle.brace_desk.specs.Refusals.{tick_of}
+use Rattle.brace_desk.specs.Shows.{Named, shown_text, file_name, checkpoint_file, saved_file, saved_world}
+use Rattle.brace_desk.specs.Watched.{Watching, figures_text, watched_file, figures_file, after_watched, IsCut}
 use Rattle.brace_watch.specs.declared.kinds.Watch.{Watch}
 use Rattle.brace_watch.specs.Watches.{AreWatches}
-use Rattle.brace_crew.proofs.RiseLemmas.{rose_from}
-use Rattle.brace_crew.proofs.TextLemmas.{all_told}
-use Rattle.brace_top.specs.declared.answer.Answer.{Answer}
-use Rattle.brace_top.specs.declared.answer.Stopped.{Stopped}
-use Rattle.brace_top.specs.declared.answer.Stopped.TheVariants as stopped
-use Rattle.brace_top.specs.declared.status.Status.{Status}
-use Rattle.brace_top.specs.declared.status.Status.TheVariants.{Done, Fault, WriteFault, SaveFault, NoMemory}
-use Rattle.brace_top.specs.declared.task.Task.{Task}
-use Rattle.brace_top.specs.declared.command.TrialCommand.{TrialCommand as CodeTrial}
-use Rattle.brace_top.specs.Answer.{ShelfCall, SinkCall, sink_call, IsBehind, HasSaved, IsHalfSaved, LeavesFront, IsHalted, CountsShelf, CountsWrites}
-use Rattle.brace_top.specs.Messages.{fault_message, save_fault_message, no_memory_message}
-use Rattle.brace_top.specs.Outcome.{Outcome, end_status, end_message, ran}
-use Rattle.brace_top.specs.Savings.{Saves, Saving, with_saved}
-use Rattle.brace_top.specs.Status.{has_run}
-use Rattle.brace_top.specs.inner.Settled.{stopped_status, stopped_message, status_in, message_in, told_counts, keeper_call, saves_in, saves_files, outcome_of, outcome_by, IsUnsavedAs, IsRefusedBy, IsSettled, IsCarriedOut, IsRunOf}
-use Rattle.brace_top.proofs.SavedLemmas.{text_of, listed, files_of, no_files_of, saving_of, saving_in, saved_by, saved_by-append, saves_none, StandsIn, stand_in, calls_save}
-use Rattle.brace_top.proofs.SettleLemmas.{counts_told, both_none, name_in, no_name, told_gives, unsaved_gives, stop_gives, stopped_gives, settled_gives, settled_work, settled_plain}
-use Rattle.brace_top.proofs.StatusLemmas.{work_reads}
+use Rattle.brace_desk.proofs.RiseLemmas.{rose_from}
+use Rattle.brace_desk.proofs.TextLemmas.{all_told}
+use Rattle.brace_command.specs.declared.answer.Answer.{Answer}
+use Rattle.brace_command.specs.declared.answer.Stopped.{Stopped}
+use Rattle.brace_command.specs.declared.answer.Stopped.TheVariants as stopped
+use Rattle.brace_command.specs.declared.status.Status.{Status}
+use Rattle.brace_command.specs.declared.status.Status.TheVariants.{Done, Fault, WriteFault, SaveFault, NoMemory}
+use Rattle.brace_command.specs.declared.task.Task.{Task}
+use Rattle.brace_command.specs.declared.command.TrialCommand.{TrialCommand as CodeTrial}
+use Rattle.brace_command.specs.Answer.{ShelfCall, SinkCall, sink_call, IsBehind, HasSaved, IsHalfSaved, LeavesFront, IsHalted, CountsShelf, CountsWrites}
+use Rattle.brace_command.specs.Messages.{fault_message, save_fault_message, no_memory_message}
+use Rattle.brace_command.specs.Outcome.{Outcome, end_status, end_message, ran}
+use Rattle.brace_command.specs.Savings.{Saves, Saving, with_saved}
+use Rattle.brace_command.specs.Status.{has_run}
+use Rattle.brace_command.specs.Settled.{stopped_status, stopped_message, status_in, message_in, told_counts, keeper_call, saves_in, saves_files, outcome_of, outcome_by, IsCarriedOut, IsRunOf}
+use Rattle.brace_top.specs.inner.Settled.{IsUnsavedAs, IsRefusedBy, IsSettled}
+use Rattle.brace_command.proofs.SavedLemmas.{text_of, listed, files_of, no_files_of, saving_of, saving_in, saved_by, saved_by-append, saves_none, StandsIn, stand_in, calls_save}
+use Rattle.brace_command.proofs.AnswerGives.{counts_told, told_gives, stop_gives, stopped_gives}
+use Rattle.brace_top.proofs.SettleLemmas.{both_none, name_in, no_name, unsaved_gives, settled_gives, settled_work, settled_plain}
+use Rattle.brace_command.proofs.StatusLemmas.{work_reads}
 use Rattle.brace_io.proofs.WholeLemmas.{with_piece-twice}
 use Rattle.brace_num.proofs.Lists.{at_seam}
+use Rattle.brace_command.proofs.NoneLemmas.{piece_none, runs}
 
 -- ---- what a publisher is behind some calls
-
-pub piece_none : (written : Option (List ℕ)) → written ≡ with_piece written []
-piece_none None = refl
-piece_none (Some bytes) = ap Some (sym (append-nil bytes))
 
 held_listed : (text : List ℕ) (file : Option Named) (held : Option Files) (files : Files) → held ≡ Some files → held_after file held ≡ Some (with_saved files (saving_in text (listed file)))
 held_listed text None held files is = is
@@ -121,10 +120,6 @@ front_of : (before after : Option (List ℕ)) (a rest text : List ℕ) → text 
 front_of before after a rest text is gained =
     let size : length text ≡ length a + length rest = ap length is ∙ length-append a rest in
     (length a, (omega (arith, size), gained ∙ ap (with_piece before) (sym (ap (take (length a)) is ∙ take-append_seam a rest))))
-
-pub runs : (o : Option RunFault) → has_run (end_status o) ≡ true
-runs None = refl
-runs (Some f) = refl
 
 -- a file that is saved has its name
 has_name : (of : World → Named) (name : List ℕ) (file : Named) (world : Option World) → ((w : World) → (of w).0 ≡ name) → option_map of world ≡ Some file → file.0 ≡ name

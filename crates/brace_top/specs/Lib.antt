@@ -1,14 +1,1 @@
-pub mod Answer
-pub mod Balances
-pub mod Commands
-pub mod Limits
-pub mod Messages
-pub mod Outcome
-pub mod Places
-pub mod PlanText
-pub mod Restarts
-pub mod Savings
-pub mod Scripts
-pub mod Status
-pub mod Trials
 pub mod inner

@@ -1,4 +1,2 @@
-pub mod Prepared
-pub mod Settled
-pub mod Words
 pub mod Fates
+pub mod Settled

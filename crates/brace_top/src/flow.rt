@@ -2,30 +2,26 @@
 ghost use Rattle.std.specs.Prelude.{◌≡◌, ◌≤◌, ℤ, [], None, Err, true};
 ghost use Rattle.brace_model.specs.Run.{end_of};
 ghost use Rattle.brace_pieces.specs.declared.setting.Setting.{Setting};
-ghost use Rattle.brace_crew.specs.Calls.{CameTo};
-ghost use Rattle.brace_top.specs.Answer.{CountsWrites, sink_call};
-ghost use Rattle.brace_top.specs.Commands as asked;
-ghost use Rattle.brace_top.specs.Outcome.{trial_end};
-ghost use Rattle.brace_top.specs.declared.status.Status.TheVariants.{Done};
-ghost use Rattle.brace_top.specs.Status.{has_run};
-ghost use Rattle.brace_top.specs.Trials.{trial_line};
-ghost use Rattle.brace_top.specs.inner.Prepared.{CanRun};
-ghost use Rattle.brace_top.specs.inner.Settled.{IsRunOf, IsWritten, keeper_call, told_counts, is_plain_work, status_in, message_in};
-ghost use Rattle.brace_top.specs.inner.Words.{said_trial};
+ghost use Rattle.brace_crew.specs.Came.{CameTo};
+ghost use Rattle.brace_command.specs.Answer.{CountsWrites, sink_call};
+ghost use Rattle.brace_command.specs.Commands as asked;
+ghost use Rattle.brace_command.specs.Outcome.{trial_end};
+ghost use Rattle.brace_command.specs.declared.status.Status.TheVariants.{Done};
+ghost use Rattle.brace_command.specs.Status.{has_run};
+ghost use Rattle.brace_command.specs.Trials.{trial_line};
+ghost use Rattle.brace_command.specs.Prepared.{CanRun};
+ghost use Rattle.brace_command.specs.Settled.{IsRunOf, IsWritten, keeper_call, told_counts, is_plain_work, status_in, message_in};
+ghost use Rattle.brace_command.specs.Words.{said_trial};
 
-use crate::answer::{Answer, Stopped};
-use crate::command::TrialCommand;
 use crate::links::crew_run_linked_by;
-use crate::task::{Task, done, faulted, settle};
+use crate::settle::settle;
 use crate::team::{Team, crew_run_on};
-use crate::trial::trial_line;
-use brace_crew::{
-    CrewFault, File, FilePublisher, Keeper, Publisher, SumPublisher, WatchPublisher,
-    crew_run_on_one,
-};
+use brace_command::{Answer, Stopped, Task, TrialCommand, done, faulted, trial_line};
+use brace_crew::{CrewFault, crew_run_on_one};
+use brace_desk::{File, FilePublisher, Keeper, Publisher, SumPublisher, WatchPublisher};
 use brace_io::{Failed, Gate, Sink, write_whole};
 use brace_model::Fault;
-use brace_part::Counts;
+use brace_pieces::Counts;
 use std::alloc::Global;
 use std::sync::Wait;
 use std::thread::Threads;

@@ -2,13 +2,13 @@
 ghost use Rattle.std.specs.Prelude.{◌≡◌, IfOk, IfSome, map, true};
 ghost use Rattle.brace_words.specs.Values.{is_link};
 ghost use Rattle.brace_pieces.specs.Settings.{LawfulSetting};
-ghost use Rattle.brace_crew.specs.Calls.{CameTo};
+ghost use Rattle.brace_crew.specs.Came.{CameTo};
 ghost use Rattle.brace_top.specs.inner.Fates.{fate_of};
 
-use brace_crew::{CrewFault, Publisher, crew_run_on_links, crew_run_on_one};
+use brace_crew::{CrewFault, crew_run_on_links, crew_run_on_one};
+use brace_desk::Publisher;
 use brace_num::NoMemory;
-use brace_part::Counts;
-use brace_pieces::Setting;
+use brace_pieces::{Counts, Setting};
 use brace_wire::Fate;
 use std::alloc::Global;
 

@@ -1,13 +1,13 @@
 ghost use Rattle.std.specs.Prelude.{◌≡◌, ◌≤◌, IfSome, true};
 ghost use Rattle.brace_words.specs.Values.{is_link};
 ghost use Rattle.brace_pieces.specs.Settings.{LawfulSetting};
-ghost use Rattle.brace_crew.specs.Calls.{CameTo};
+ghost use Rattle.brace_crew.specs.Came.{CameTo};
 
 use crate::links::crew_run_linked_by;
-use brace_crew::{CrewFault, Publisher, crew_run};
+use brace_crew::{CrewFault, crew_run};
+use brace_desk::Publisher;
 use brace_io::Gate;
-use brace_part::Counts;
-use brace_pieces::Setting;
+use brace_pieces::{Counts, Setting};
 use std::alloc::Global;
 use std::sync::Wait;
 use std::thread::Threads;

@@ -7,8 +7,8 @@ ghost use Rattle.brace_wire.specs.inner.Written.{BodyFits};
 
 use crate::Frame;
 use crate::write::{
-    append_agents, append_byte, append_cause, append_census, append_eight, append_entries,
-    append_four, append_shows,
+    append_byte, append_cause, append_census, append_eight, append_entries, append_four,
+    append_herd, append_shows,
 };
 use brace_model::Program;
 use brace_num::NoMemory;
@@ -93,7 +93,7 @@ fn append_piece(out: &mut Vec<u8>, p: &Piece) -> Result<(), NoMemory>
     match p {
         Piece::Border(agents) => {
             append_byte(out, 0)?;
-            append_agents(out, agents.as_slice())
+            append_herd(out, agents)
         }
         Piece::Effects(entries) => {
             append_byte(out, 1)?;
@@ -101,11 +101,11 @@ fn append_piece(out: &mut Vec<u8>, p: &Piece) -> Result<(), NoMemory>
         }
         Piece::Move(agents) => {
             append_byte(out, 2)?;
-            append_agents(out, agents.as_slice())
+            append_herd(out, agents)
         }
         Piece::Hand(agents) => {
             append_byte(out, 3)?;
-            append_agents(out, agents.as_slice())
+            append_herd(out, agents)
         }
         Piece::Show(shows) => {
             append_byte(out, 4)?;

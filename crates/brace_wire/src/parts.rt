@@ -104,11 +104,13 @@ pub(crate) fn read_agents<'a>(
     alloc: Global,
     types: &[List<Ty>],
     bytes: &'a [u8],
-) -> Result<(List<Agent>, &'a [u8]), Unread>
+) -> Result<(Herd, &'a [u8]), Unread>
     ensures { Gives (λ x. (x.0, x.1.now)) result (list_at (agent_at types.now) bytes.now) }
 {
     let (count, rest) = read_four(bytes)?;
-    read_many_agents(alloc, types, count, rest)
+    let (agents, rest) = read_many_agents(alloc, types, count, rest)?;
+    let herd = Herd::of(alloc, agents.as_slice())?;
+    Ok((herd, rest))
 }
 
 #[tactic(auto, unfolding(crate::specs::inner::Reading::total_at))]
@@ -250,7 +252,6 @@ fn read_shown<'a>(
     let (tick, rest) = read_eight(bytes)?;
     let (next, rest) = read_eight(rest)?;
     let (agents, rest) = read_agents(alloc, types, rest)?;
-    let agents = Herd::of(alloc, agents.as_slice())?;
     Ok((Shown { tick, agents, next }, rest))
 }
 

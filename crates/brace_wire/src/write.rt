@@ -133,22 +133,9 @@ fn append_agent(out: &mut Vec<u8>, a: &Agent) -> Result<(), NoMemory>
     append_values(out, a.states.as_slice())
 }
 
-#[tactic(auto, using(crate::proofs::Starts::starts))]
-pub(crate) fn append_agents(out: &mut Vec<u8>, agents: &[Agent]) -> Result<(), NoMemory>
-    ensures written { OnOk result (out.new.items ≡ out.old.items ++ listed agent agents.now) }
-    ensures fits { OnOk result (ListFits AgentFits agents.now) }
-    ensures only_appends { take (length out.old.items) out.new.items ≡ out.old.items }
-{
-    append_count(out, agents.len())?;
-    for a in agents {
-        append_agent(out, a)?;
-    }
-    Ok(())
-}
-
 /// Appends the agents of a herd, which are unpacked one at a time.
 #[tactic(auto, using(crate::proofs::Starts::starts))]
-fn append_herd(out: &mut Vec<u8>, agents: &Herd) -> Result<(), NoMemory>
+pub(crate) fn append_herd(out: &mut Vec<u8>, agents: &Herd) -> Result<(), NoMemory>
     ensures written { OnOk result (out.new.items ≡ out.old.items ++ listed agent agents.now) }
     ensures fits { OnOk result (ListFits AgentFits agents.now) }
     ensures only_appends { take (length out.old.items) out.new.items ≡ out.old.items }

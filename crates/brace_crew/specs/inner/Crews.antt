@@ -11,11 +11,11 @@ use Rattle.brace_pieces.specs.Fronts.{steps_to}
 use Rattle.brace_pieces.specs.Right.{IsRightCause}
 use Rattle.brace_pieces.specs.Courses.{OnCourse, IsCourse, past_of}
 use Rattle.brace_part.specs.Parts.{IsCauseOfAll}
-use Rattle.brace_crew.specs.Desks.{OnDesk}
+use Rattle.brace_desk.specs.Desks.{OnDesk}
 use Rattle.brace_crew.specs.declared.member.Member.{Member}
 use Rattle.brace_crew.specs.declared.member.Member.TheVariants as member
 use Rattle.brace_crew.specs.Members.{course_of, opening_of, IsLast}
-use Rattle.brace_crew.specs.inner.Lots.{world_of}
+use Rattle.brace_desk.specs.Lots.{world_of}
 
 -- all parts of a run, by rising number
 pub record AreParts {P : Type 0} (s : Setting) (members : List (Member P)) : Type 0 where

@@ -1,6 +1,6 @@
 // Agents in columns that are owned: as lists, with more behind, and some of them.
 use brace_fold::{Redo, columns_of};
-use brace_model::{Agent, Program};
+use brace_model::{Agent, Herd, Program};
 use brace_num::NoMemory;
 use brace_test_runs::{agents, program};
 use std::alloc::Global;
@@ -16,8 +16,8 @@ fn tell(alloc: Global, agents: &[Agent], text: &mut String) -> Result<(), NoMemo
     Ok(())
 }
 
-/// The ids of the agents of three lists, and how many values they have.
-fn told(alloc: Global, lists: [&[Agent]; 3]) -> Result<String, NoMemory> {
+/// The ids of the agents of two lists, and how many values they have.
+fn told(alloc: Global, lists: [&[Agent]; 2]) -> Result<String, NoMemory> {
     let mut text = String::new(alloc);
     for agents in lists {
         tell(alloc, agents, &mut text)?;
@@ -25,17 +25,14 @@ fn told(alloc: Global, lists: [&[Agent]; 3]) -> Result<String, NoMemory> {
     Ok(text)
 }
 
-/// Of agents in columns those of some rows, as a list and in columns, and all with them behind.
+/// Of agents in columns those of some rows, and all with them behind.
 fn each_way(alloc: Global, program: &Program, agents: &[Agent]) -> Result<String, Redo> {
     let mut rows = columns_of(alloc, program, agents, &[])?;
-    let mut used = rows.agents(alloc, program)?;
-    let some = rows.agents_at(alloc, program, &[4, 0, 2], &mut used)?;
-    let picked = rows.picked(alloc, &[2, 0, 4])?;
-    rows.add(&some)?;
+    let few = rows.picked(alloc, &[2, 0, 4])?.agents(alloc, program)?;
+    rows.add(&Herd::of(alloc, few.as_slice())?)?;
     rows.expect_listed(alloc, program)?;
-    let few = picked.agents(alloc, program)?;
     let all = rows.agents(alloc, program)?;
-    Ok(told(alloc, [some.as_slice(), few.as_slice(), all.as_slice()])?)
+    Ok(told(alloc, [few.as_slice(), all.as_slice()])?)
 }
 
 /// A class of three states and one of two.
@@ -44,7 +41,7 @@ const SCRIPT: &str = "class P{#visible[4];#reach[1];public state fixed x;public 
 
 const ROWS: &str = "P,1,0,0,3\nP,2,1,2,4\nQ,4,2,2\nP,5,1,1,10\nQ,6,0,0\n";
 
-const PICKED: &str = "6 2, 1 3, 4 2, / 4 2, 1 3, 6 2, / 1 3, 2 3, 4 2, 5 3, 6 2, 6 2, 1 3, 4 2, / ";
+const PICKED: &str = "4 2, 1 3, 6 2, / 1 3, 2 3, 4 2, 5 3, 6 2, 4 2, 1 3, 6 2, / ";
 
 #[test]
 fn picks_agents_of_rows(rt: HostRuntime) -> Result<(), Fail> {

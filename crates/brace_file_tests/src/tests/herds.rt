@@ -1,6 +1,6 @@
 // Agents packed: given back as they were, joined and sorted.
 use crate::tests::programs::agent_of;
-use brace_model::{Agent, Herd, Value};
+use brace_model::{Agent, Herd, Ty, Value};
 use std::alloc::Global;
 use std::test::Fail;
 
@@ -56,5 +56,29 @@ fn a_herd_is_sorted_by_id(rt: HostRuntime) -> Result<(), Fail> {
         ids(rt.alloc(), &copy.agents()?)?.as_slice(),
         [1, 3, 5, 7, 9].as_slice()
     );
+    Ok(())
+}
+
+#[test]
+fn herds_with_words_in_common_do_not_change_each_other(rt: HostRuntime) -> Result<(), Fail> {
+    let alloc = rt.alloc();
+    let mut herd = herd(alloc)?;
+    let mut some = herd.picked(alloc, &[4, 0])?;
+    some.append(herd.picked(alloc, &[2])?)?;
+    herd.push(1, 8, &[Ty::Int, Ty::Int], &[i64::MIN, i64::MAX])?;
+    some.push(1, 6, &[Ty::Int, Ty::Int], &[i64::MIN, i64::MAX])?;
+    some.append(herd.picked(alloc, &[1])?)?;
+    assert_eq!(rt;
+        ids(alloc, &some.agents()?)?.as_slice(),
+        [7, 3, 5, 6, 9].as_slice()
+    );
+    assert_eq!(rt;
+        ids(alloc, &herd.agents()?)?.as_slice(),
+        [3, 9, 5, 1, 7, 8].as_slice()
+    );
+    for agent in &some.agents()? {
+        let values = if agent.class == 0 { HERE } else { THERE };
+        assert_eq!(rt; agent.states.as_slice(), values);
+    }
     Ok(())
 }

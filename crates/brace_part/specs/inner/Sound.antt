@@ -1,79 +1,27 @@
 -- What holds of a part at every moment. Only the crate's own functions cite this.
-use Rattle.std.specs.Prelude.{◌≡◌, ℕ, ◌-◌, ◌<◌, ◌≤◌, List, [], length, take, drop, false, true, Option, Some, None, IfSome, slice_get}
-use Rattle.std.specs.List.{All, Contains}
-use Rattle.brace_invert.specs.Split.{forward_program, inverse_program}
+use Rattle.std.specs.Prelude.{◌≡◌, ℕ, ◌-◌, ◌≤◌, List, [], length, take, drop, Option, Some, None, slice_get}
 use Rattle.brace_fold.specs.Listed.{agents_in}
 use Rattle.brace_fold.specs.Rows.{by_id}
-use Rattle.brace_model.specs.declared.fault.Fault.{Fault}
 use Rattle.brace_model.specs.declared.program.Program.{Program}
 use Rattle.brace_model.specs.declared.world.Agent.{Agent}
 use Rattle.brace_pieces.specs.declared.setting.Setting.{Setting}
-use Rattle.brace_pieces.specs.declared.setting.Stage.{Stage}
 use Rattle.brace_pieces.specs.declared.setting.Step.{Step}
-use Rattle.brace_pieces.specs.declared.piece.Cause.{Cause}
-use Rattle.brace_pieces.specs.declared.piece.Piece.{Piece}
-use Rattle.brace_pieces.specs.Settings.{LawfulSetting, parts}
+use Rattle.brace_pieces.specs.declared.turns.Turns.{Turns}
+use Rattle.brace_pieces.specs.Settings.{parts}
 use Rattle.brace_pieces.specs.Continued.{on}
-use Rattle.brace_pieces.specs.Numbers.{NumbersFit}
-use Rattle.brace_pieces.specs.Steps.{step, steps, met, is_show}
-use Rattle.brace_pieces.specs.Right.{IsRightCause}
-use Rattle.brace_pieces.specs.Courses.{OnCourse, IsCourse, step_of, others_of}
-use Rattle.brace_part.specs.declared.query.Queries.{Queries}
-use Rattle.brace_part.specs.declared.query.Queries.TheVariants.{Script, Inverted}
-use Rattle.brace_part.specs.declared.standing.Stance.{Stance}
-use Rattle.brace_part.specs.declared.standing.Stance.TheVariants.{Owns, Hears, Holds, Leaves}
+use Rattle.brace_pieces.specs.Steps.{steps, met}
+use Rattle.brace_pieces.specs.Courses.{OnCourse, step_of, others_of}
+use Rattle.brace_pieces.specs.Turns.{IsTurns}
+use Rattle.brace_herd.specs.declared.query.Queries.{Queries}
+use Rattle.brace_herd.specs.declared.stance.Stance.{Stance}
+use Rattle.brace_herd.specs.declared.stance.Stance.TheVariants.{Owns, Hears, Holds, Leaves}
 use Rattle.brace_part.specs.declared.standing.Standing.{Standing}
-use Rattle.brace_part.specs.declared.work.Worker.{Worker}
-use Rattle.brace_part.specs.Parts.{found_in_work, keeps_at, brings_at, IsCauseOfAll}
-use Rattle.brace_part.specs.Given.{counts_behind, counts_up_to}
-use Rattle.brace_part.specs.inner.Pieces.{AreOut, AreTaken}
-use Rattle.brace_part.specs.inner.Ready.{IsReady, IsReadyFor, IsReadyBehind, IsNextAt, IsFaultlessAt, IsFaultlessBefore, AreKept}
-
--- the queries that a part asks in a run, which stand for their programs
-abbrev pub AreQueriesOf : Setting → Queries → Type 0
-AreQueriesOf s (Script script) = (s.invert ≡ false) × (script ≡ s.job.program)
-AreQueriesOf s (Inverted forward inverse) =
-    (s.invert ≡ true)
-    × (forward ≡ forward_program s.job.program)
-    × (inverse ≡ inverse_program s.job.program)
-
--- a part of a lawful setting, and the queries that it asks
-pub record IsPartOf (s : Setting) (p : ℕ) (queries : Queries) : Type 0 where
-  pub lawful : LawfulSetting s
-  pub numbers : NumbersFit s
-  pub is_part : p < parts s
-  pub queries_are : AreQueriesOf s queries
-
--- a worker is a part of its setting
-abbrev pub IsWorker : Worker → Type 0
-IsWorker w = IsPartOf w.setting.now w.part w.queries.now
-
--- a worker is at its work in a step of a stage and tick, and took these pieces there
-pub record IsWork (w : Worker) (at : Stage) (tick : ℕ) (taken : List Piece) : Type 0 where
-  pub stands : slice_get (steps w.setting.now) w.number ≡ Some (step at tick)
-  pub took : AreTaken w.setting.now w.number w.part (met w.setting.now (step at tick) w.part) taken
-  pub next_is : w.next ≡ (on w.setting.now tick).next
-
--- what a worker has is what a step needs, and what it has behind its work there
-abbrev pub IsReadyTo : Worker → Stage → ℕ → Stance → Type 0
-IsReadyTo w at tick = IsReadyFor w.setting.now w.part at tick
-
-abbrev pub IsBehind : Worker → Stage → ℕ → Stance → Type 0
-IsBehind w at tick = IsReadyBehind w.setting.now w.part at tick
-
--- the faults that it finds there
-abbrev pub finds : Worker → Stage → ℕ → List Fault
-finds w at tick = found_in_work w.setting.now w.part at tick
-
--- a step of the run that shows nothing to the publisher is the one of the worker's number
-pub record IsNext (w : Worker) (at : Step) : Type 0 where
-  pub stands : slice_get (steps w.setting.now) w.number ≡ Some at
-  pub shows_nothing : is_show at.stage ≡ false
-  pub next_is : w.next ≡ (on w.setting.now at.tick).next
-
--- a worker meets all of these in a step
-abbrev pub AreMet : Worker → Step → List ℕ → Type 0
-AreMet w at others = All (λ q. Contains (met w.setting.now at w.part) q) others
+use Rattle.brace_part.specs.Parts.{keeps_at, brings_at, IsCauseOfAll}
+use Rattle.brace_pieces.specs.Given.{counts_behind, counts_up_to}
+use Rattle.brace_pieces.specs.Exchanged.{AreOut, AreTaken}
+use Rattle.brace_part.specs.inner.Ready.{IsReady, IsNextAt, IsFaultlessAt, IsFaultlessBefore, AreKept}
+use Rattle.brace_herd.specs.Ready.{IsReadyFor}
+use Rattle.brace_herd.specs.Workers.{IsPartOf}
 
 -- a part comes to a step, or to its end: what it has, what it keeps, and what it gave before
 pub record ComesTo (s : Setting) (p number : ℕ) (at : Option Step) (standing : Standing)
@@ -106,20 +54,14 @@ pub record IsAtWork (s : Setting) (p number : ℕ) (at : Step) (standing : Stand
   pub keeps : standing.shown ≡ keeps_at s p (Some at)
   pub counted : standing.counts ≡ counts_up_to s p number
 
--- a cause that a part has is right in every step that is left
-abbrev pub IsHalted : Setting → ℕ → Option Cause → Type 0
-IsHalted s number c = IfSome c (IsRightCause s number)
-
 -- what holds of a part: it goes on where it has no cause, and has room for what it takes
-pub record IsSound (c : OnCourse) (queries : Queries) (standing : Standing)
-    (cause : Option Cause) (room : ℕ) : Type 0 where
-  pub is_part : IsPartOf c.setting c.actor queries
-  pub course : IsCourse c
-  pub goes_on : cause ≡ None → GoesOn c standing
-  pub halted : IsHalted c.setting c.number cause
-  pub found : IsCauseOfAll c.setting c.actor c.number cause
-  pub kept : AreKept c.setting c.actor standing.shown
-  pub has_room : parts c.setting ≤ room
+pub record IsSound (t : Turns) (queries : Queries) (standing : Standing) (room : ℕ) : Type 0 where
+  pub is_part : IsPartOf t.course.setting t.course.actor queries
+  pub turns : IsTurns t
+  pub goes_on : t.cause ≡ None → GoesOn t.course standing
+  pub found : IsCauseOfAll t.course.setting t.course.actor t.course.number t.cause
+  pub kept : AreKept t.course.setting t.course.actor standing.shown
+  pub has_room : parts t.course.setting ≤ room
 
 -- the agents that a part owns, by rising id, if it is settled
 abbrev pub owns_in : Program → Stance → List Agent

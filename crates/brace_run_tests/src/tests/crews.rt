@@ -4,16 +4,13 @@ ghost use Rattle.brace_io.specs.Shelves.{Idle};
 ghost use Rattle.brace_lanes.specs.Seats.{new_seats};
 ghost use Rattle.brace_pieces.specs.Settings.{LawfulSetting, parts};
 
-use brace_crew::{
-    Bench, CrewFault, Drive, FilePublisher, Keeper, PubFault, Publisher, ShelfKeeper, SumPublisher,
-    benches, crew_run, crew_run_linked,
-};
+use brace_crew::{Bench, CrewFault, Drive, benches, crew_run, crew_run_linked};
+use brace_desk::{FilePublisher, Keeper, PubFault, Publisher, ShelfKeeper, SumPublisher};
 use brace_io::{MemShelf, MemSink, OpenGate, Sink};
 use brace_lanes::{LaneSeat, Lanes};
 use brace_model::{Herd, Value};
 use brace_num::NoMemory;
-use brace_part::Counts;
-use brace_pieces::{Piece, Setting, Shown};
+use brace_pieces::{Counts, Piece, Setting, Shown};
 use brace_test_runs::{Run, agent, setting};
 use brace_wire::{Fate, WireLanes};
 use std::alloc::Global;

@@ -1,9 +1,8 @@
 // Bytes of frames worked by hand.
 use brace_comb::{Entry, Total};
-use brace_model::{Agent, Census, Class, Fault, Herd, Parent, Phase, Program, State, Ty, Value};
+use brace_model::{Census, Class, Fault, Herd, Parent, Phase, Program, State, Ty};
 use brace_num::{Kind, List, NoMemory, Text};
 use brace_pieces::{Cause, Piece, Shown};
-use brace_test_runs::agent;
 use brace_wire::{Decoder, Frame, encode};
 use std::alloc::Global;
 use std::test::Fail;
@@ -11,7 +10,7 @@ use std::test::Fail;
 /// A class with one state of each type.
 fn program(alloc: Global) -> Result<Program, NoMemory> {
     let mut states = List::new(alloc);
-    for ty in [Ty::Fixed, Ty::Int, Ty::Bool] {
+    for ty in TYPES {
         states.push(State {
             name: Text::from_string(String::new(alloc)),
             ty,
@@ -38,13 +37,15 @@ fn program(alloc: Global) -> Result<Program, NoMemory> {
     })
 }
 
-const STATES: [Value; 3] = [Value::Fixed(-1), Value::Int(258), Value::Flag(true)];
+const TYPES: [Ty; 3] = [Ty::Fixed, Ty::Int, Ty::Bool];
+
+const WORDS: [i64; 3] = [-1, 258, 1];
 
 /// So many agents.
-fn agents(alloc: Global, count: u64) -> Result<List<Agent>, NoMemory> {
-    let mut agents = List::new(alloc);
+fn agents(alloc: Global, count: u64) -> Result<Herd, NoMemory> {
+    let mut agents = Herd::new(alloc);
     for id in 0..count {
-        agents.push(agent(alloc, id, &STATES)?)?;
+        agents.push(0, id, &TYPES, &WORDS)?;
     }
     Ok(agents)
 }
@@ -98,7 +99,7 @@ fn spells_an_ack_and_an_empty_move(rt: HostRuntime) -> Result<(), Fail> {
     let alloc = rt.alloc();
     let program = program(alloc)?;
     let ack = bytes_of(alloc, &program, &[between(2, 0, 0, Piece::Ack)])?;
-    let empty = Piece::Move(List::new(alloc));
+    let empty = Piece::Move(Herd::new(alloc));
     let moved = bytes_of(alloc, &program, &[between(0, 1, 2, empty)])?;
     assert!(rt; ack.as_slice() == ACK.as_slice() && moved.as_slice() == EMPTY_MOVE.as_slice());
     Ok(())
@@ -146,11 +147,10 @@ fn census(alloc: Global) -> Result<Census, NoMemory> {
 
 /// A world of two agents.
 fn shows(alloc: Global) -> Result<List<Shown>, NoMemory> {
-    let two = agents(alloc, 2)?;
     let mut shows = List::new(alloc);
     shows.push(Shown {
         tick: 8,
-        agents: Herd::of(alloc, two.as_slice())?,
+        agents: agents(alloc, 2)?,
         next: 9,
     })?;
     Ok(shows)

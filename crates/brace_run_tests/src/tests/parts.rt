@@ -2,13 +2,14 @@
 // step.
 ghost use Rattle.std.specs.Prelude.{◌≡◌, ◌<◌, IfOk};
 ghost use Rattle.brace_pieces.specs.Settings.{LawfulSetting, cuts_of, parts};
-ghost use Rattle.brace_part.specs.Parts.{own_under};
+ghost use Rattle.brace_herd.specs.Works.{own_under};
 
 use brace_core::{Actor, Turn};
-use brace_crew::{CrewFault, FilePublisher, ShelfKeeper, crew_run_on_one};
+use brace_crew::{CrewFault, crew_run_on_one};
+use brace_desk::{FilePublisher, ShelfKeeper};
 use brace_eval::{StepFault, plain_step};
 use brace_io::{MemShelf, MemSink};
-use brace_model::{Agent, Fault};
+use brace_model::{Fault, Herd};
 use brace_num::NoMemory;
 use brace_part::Part;
 use brace_pieces::{Setting, owned_of};
@@ -59,13 +60,13 @@ fn walk(
 
 /// The agents of a part in the first world.
 #[tactic(auto, using(brace_part::proofs::StartLemmas::own_of))]
-fn own(alloc: Global, setting: &Setting, p: u32) -> Result<Vec<Agent>, NoMemory>
+fn own(alloc: Global, setting: &Setting, p: u32) -> Result<Herd, NoMemory>
     requires lawful { LawfulSetting setting.now }
-    ensures own { IfOk result (λ own. own.items ≡ own_under setting.now p
+    ensures own { IfOk result (λ own. own ≡ own_under setting.now p
         (cuts_of setting.now setting.now.job.first) setting.now.job.first) }
 {
     let agents = setting.job.start.agents();
-    Ok(owned_of(alloc, setting, setting.job.first, agents, p)?.into_vec())
+    owned_of(alloc, setting, setting.job.first, agents, p)
 }
 
 /// The ids of a part's agents.

@@ -1,6 +1,6 @@
 use Rattle.std.proofs.Common.{sym, subst}
 use Rattle.brace_part.specs.inner.Ready.{AreKept}
-use Rattle.brace_crew.specs.inner.Lots.{tick_shown}
+use Rattle.brace_desk.specs.Lots.{tick_shown}
 use Rattle.brace_crew.specs.inner.Crews.{AreOf}
 use Rattle.brace_crew.proofs.LeftLemmas.{kept_are, lot_is}
 use Rattle.brace_crew.proofs.crew.brought.Goals as goal

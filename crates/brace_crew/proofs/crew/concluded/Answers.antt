@@ -1,5 +1,5 @@
 use Rattle.std.proofs.Common.{rules, ◌≡◌, ◌∙◌, sym, ap, subst, vec_len, length, All}
-use Rattle.brace_crew.specs.Calls.{CameTo}
+use Rattle.brace_crew.specs.Came.{CameTo}
 use Rattle.brace_crew.specs.Workers.{EndsBehind}
 use Rattle.brace_crew.specs.Members.{opening_of, IsAt}
 use Rattle.brace_crew.specs.inner.Crews.{AreParts}

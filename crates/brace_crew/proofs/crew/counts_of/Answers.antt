@@ -1,5 +1,5 @@
 use Rattle.std.proofs.Common.{rules, ◌≡◌, ◌∙◌, sym, ap, get_or, true, None, is_none}
-use Rattle.brace_part.specs.Given.{together}
+use Rattle.brace_pieces.specs.Given.{together}
 use Rattle.brace_crew.proofs.CountsGiven.{one_given}
 use Rattle.brace_crew.proofs.crew.counts_of.Goals as goal
 use Rattle.brace_num.proofs.Options.{none_there}

@@ -2,7 +2,7 @@ use Rattle.std.proofs.Common.{◌≡◌, length, take, All}
 use Rattle.brace_pieces.specs.Steps.{steps}
 use Rattle.brace_crew.specs.Members.{IsAt}
 use Rattle.brace_pieces.specs.declared.setting.Setting.{Setting}
-use Rattle.brace_part.specs.Given.{summed}
+use Rattle.brace_pieces.specs.Given.{summed}
 use Rattle.brace_crew.specs.inner.Crews.{AreParts}
 use Rattle.brace_crew.proofs.CountsGiven.{gives}
 use Rattle.brace_crew.proofs.crew.counts_of.Given as goal

@@ -3,8 +3,9 @@ use Rattle.brace_pieces.specs.declared.setting.Setting.{Setting}
 use Rattle.brace_pieces.specs.declared.piece.Cause.TheVariants as cause
 use Rattle.brace_pieces.specs.Right.{IsShown}
 use Rattle.brace_crew.specs.declared.crew.CrewFault.TheVariants as fault
-use Rattle.brace_crew.specs.Calls.{ticks_left, CameTo}
-use Rattle.brace_crew.specs.Desks.{whole_at, ends_before}
+use Rattle.brace_desk.specs.Calls.{ticks_left}
+use Rattle.brace_crew.specs.Came.{CameTo}
+use Rattle.brace_desk.specs.Desks.{whole_at, ends_before}
 use Rattle.brace_pieces.proofs.FoundLemmas.{first_not_before, first_within}
 use Rattle.brace_crew.proofs.FirstFault.{IsRun, first_told}
 use Rattle.brace_crew.proofs.CrewEnds.{reached_within, stop_ends, halted_ends, fault_ends, gave_up, all_was_shown, rest_was_shown, rest_told}

@@ -4,7 +4,7 @@ use Rattle.std.specs.List.{All, Contains}
 use Rattle.brace_pieces.specs.Settings.{LawfulSetting, is_end, shown_ticks}
 use Rattle.brace_pieces.specs.Right.{IsShown}
 use Rattle.brace_crew.specs.Members.{course_of}
-use Rattle.brace_crew.specs.inner.Lots.{world_of, tick_shown}
+use Rattle.brace_desk.specs.Lots.{world_of, tick_shown}
 use Rattle.brace_crew.specs.inner.Crews.{AreOf}
 use Rattle.brace_crew.proofs.LeftLemmas.{part_at, lots_more, lots_all}
 use Rattle.brace_crew.proofs.crew.lots_left.Goals as goal

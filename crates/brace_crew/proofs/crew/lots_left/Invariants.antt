@@ -4,7 +4,7 @@ use Rattle.std.specs.List.{All, Contains, range_with_len}
 use Rattle.brace_pieces.specs.declared.setting.Setting.{Setting}
 use Rattle.brace_pieces.specs.Settings.{LawfulSetting, is_end, shown_ticks}
 use Rattle.brace_pieces.specs.Right.{IsShown}
-use Rattle.brace_crew.specs.inner.Lots.{brought, tick_shown}
+use Rattle.brace_desk.specs.Lots.{brought, tick_shown}
 use Rattle.brace_crew.specs.inner.Crews.{AreParts}
 use Rattle.brace_crew.proofs.crew.lots_left.Given as goal
 

@@ -1,6 +1,6 @@
 use Rattle.std.proofs.Common.{◌≡◌, ℕ, map, take}
 use Rattle.brace_pieces.specs.declared.setting.Setting.{Setting}
-use Rattle.brace_crew.specs.inner.Lots.{world_of}
+use Rattle.brace_desk.specs.Lots.{world_of}
 use Rattle.brace_crew.specs.inner.Crews.{AreOf}
 use Rattle.brace_crew.proofs.crew.picked.Given as goal
 

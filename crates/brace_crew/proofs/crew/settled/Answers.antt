@@ -1,8 +1,9 @@
 use Rattle.std.proofs.Common.{rules, ◌≡◌, ◌∙◌, sym, ap, subst, All, Ok, Err, Some, None}
 use Rattle.brace_pieces.specs.declared.piece.Cause.TheVariants as cause
-use Rattle.brace_crew.specs.declared.desk.Stop.TheVariants as stop
+use Rattle.brace_desk.specs.declared.desk.Stop.TheVariants as stop
+use Rattle.brace_desk.specs.Desks.{stop_of}
 use Rattle.brace_crew.specs.declared.crew.CrewFault.TheVariants as fault
-use Rattle.brace_crew.specs.Calls.{CameTo}
+use Rattle.brace_crew.specs.Came.{CameTo}
 use Rattle.brace_crew.specs.Members.{IsAt}
 use Rattle.brace_crew.specs.Workers.{EndsBehind}
 use Rattle.brace_crew.proofs.FirstFault.{IsRun}
@@ -12,7 +13,7 @@ use Rattle.brace_crew.proofs.crew.settled.Goals as goal
 pub ended-publisher-requires-clause-halted : goal.ended-publisher-requires-clause-halted
 ended-publisher-requires-clause-halted g c =
     let f = c.in-Some-Halt-Fault.field-0-0-0 in
-    let is : c.args.desk.stop ≡ Some (stop.Halt (cause.Fault f)) = search rules in
+    let is : stop_of c.args.desk ≡ Some (stop.Halt (cause.Fault f)) = search rules in
     let (n, (at, desk)) = c.requires.ended in
     (f, c.stop.ensures.halted (cause.Fault f) is (between c.args.setting.now n c.args.desk desk c.stop.ensures.course))
 
@@ -24,7 +25,7 @@ returns-in-Ok g c =
     let s = c.args.setting.now in
     let d = c.args.desk in
     let run : IsRun s = record { lawful = c.requires.lawful; numbers = c.numbers_fit.ensures } in
-    let none : d.stop ≡ None = sym c.stop.ensures.same ∙ c.in-None.is in
+    let none : stop_of d ≡ None = sym c.stop.ensures.same ∙ c.in-None.is in
     let (n, (at, desk)) = c.requires.ended in
     let all = goes_through s n d desk c.stop.ensures.course none c.stop.ensures.told in
     let shown = all_were_shown s n d desk c.stop.ensures.course none c.stop.ensures.told g.P.Publisher (c.stop.ensures.all none) in
@@ -41,7 +42,7 @@ returns-in-Err g c =
     let s = c.args.setting.now in
     let d = c.args.desk in
     let run : IsRun s = record { lawful = c.requires.lawful; numbers = c.numbers_fit.ensures } in
-    let none : d.stop ≡ None = sym c.stop.ensures.same ∙ c.in-None.is in
+    let none : stop_of d ≡ None = sym c.stop.ensures.same ∙ c.in-None.is in
     let (n, (at, desk)) = c.requires.ended in
     record {
       came = subst (λ v. CameTo g.P.Publisher s d.opening v (Err fault.NoMemory)) (sym c.into_publisher-in-Err.ensures.same) (record {
@@ -63,7 +64,7 @@ returns-in-Some-Halt-NoMemory g c =
     let d = c.args.desk in
     let run : IsRun s = record { lawful = c.requires.lawful; numbers = c.numbers_fit.ensures } in
     let x = c.in-Some-Halt-NoMemory.field-0-0 in
-    let is : d.stop ≡ Some (stop.Halt x) = sym c.stop.ensures.same ∙ c.in-Some-Halt-NoMemory.is ∙ ap Some c.in-Some-Halt-NoMemory.field-0-is in
+    let is : stop_of d ≡ Some (stop.Halt x) = sym c.stop.ensures.same ∙ c.in-Some-Halt-NoMemory.is ∙ ap Some c.in-Some-Halt-NoMemory.field-0-is in
     let (n, (at, desk)) = c.requires.ended in
     record {
       came = subst (λ v. CameTo g.P.Publisher s d.opening v (Err fault.NoMemory)) (sym c.into_publisher-in-Some-Halt-NoMemory.ensures.same) (record {
@@ -81,7 +82,7 @@ returns-in-Some-Refusal g c =
     let d = c.args.desk in
     let run : IsRun s = record { lawful = c.requires.lawful; numbers = c.numbers_fit.ensures } in
     let x = c.in-Some-Refusal.refusal in
-    let is : d.stop ≡ Some (stop.Refusal x) = search rules in
+    let is : stop_of d ≡ Some (stop.Refusal x) = search rules in
     let (n, (at, desk)) = c.requires.ended in
     record {
       came = refused_came g.P.Publisher s d desk.setting_is run x

@@ -1,9 +1,9 @@
 use Rattle.std.proofs.Common.{◌≡◌, ◌∙◌, sym, ap, subst, map, IfSome, All, Contains}
 use Rattle.std.specs.List.{range_with_len}
 use Rattle.brace_pieces.specs.Settings.{parts, shown_ticks}
-use Rattle.brace_crew.specs.Calls.{ticks_left}
-use Rattle.brace_crew.specs.Desks.{whole_at}
-use Rattle.brace_crew.specs.inner.Lots.{brought, tick_shown}
+use Rattle.brace_desk.specs.Calls.{ticks_left}
+use Rattle.brace_desk.specs.Desks.{whole_at}
+use Rattle.brace_desk.specs.Lots.{brought, tick_shown}
 use Rattle.brace_crew.proofs.CrewEnds.{left_all}
 use Rattle.brace_crew.proofs.crew.worlds_left.Goals as goal
 

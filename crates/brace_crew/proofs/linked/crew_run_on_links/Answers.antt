@@ -1,4 +1,4 @@
-use Rattle.brace_part.proofs.LawfulOn.{on_lawful}
+use Rattle.brace_herd.proofs.LawfulOn.{on_lawful}
 use Rattle.brace_crew.proofs.BytesLemmas.{have_bytes}
 use Rattle.brace_crew.proofs.linked.crew_run_on_links.Goals as goal
 

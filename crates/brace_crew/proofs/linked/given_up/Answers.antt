@@ -1,5 +1,5 @@
 use Rattle.std.proofs.Common.{ap, subst, Err}
-use Rattle.brace_crew.specs.Calls.{CameTo}
+use Rattle.brace_crew.specs.Came.{CameTo}
 use Rattle.brace_crew.specs.Members.{opening_of}
 use Rattle.brace_crew.proofs.RunMembers.{no_part, desk_opening, desk_setting}
 use Rattle.brace_crew.proofs.linked.given_up.Goals as goal

@@ -1,7 +1,8 @@
 use Rattle.std.proofs.Common.{rules, ◌≡◌, ◌∙◌, sym, ap, subst, Err, Some, None}
-use Rattle.brace_crew.specs.declared.desk.Stop.TheVariants as stop
+use Rattle.brace_desk.specs.declared.desk.Stop.TheVariants as stop
+use Rattle.brace_desk.specs.Desks.{stop_of}
 use Rattle.brace_crew.specs.declared.crew.CrewFault.TheVariants as fault
-use Rattle.brace_crew.specs.Calls.{CameTo}
+use Rattle.brace_crew.specs.Came.{CameTo}
 use Rattle.brace_crew.proofs.FirstFault.{IsRun}
 use Rattle.brace_crew.proofs.CrewEnds.{shown_front, refused_came}
 use Rattle.brace_crew.proofs.LinkedEnds.{none_refused, halted_unrefused}
@@ -12,8 +13,8 @@ returns-in-None g c =
     let s = c.args.setting.now in
     let d = c.args.desk in
     let run : IsRun s = record { lawful = c.requires.lawful; numbers = c.numbers_fit.ensures } in
-    let none : d.stop ≡ None = sym c.stop.ensures.same ∙ c.in-None.is in
-    let (count, shown) = c.stop.ensures.shown (none_refused d.stop none) in
+    let none : stop_of d ≡ None = sym c.stop.ensures.same ∙ c.in-None.is in
+    let (count, shown) = c.stop.ensures.shown (none_refused (stop_of d) none) in
     record {
       came = subst (λ v. CameTo g.P.Publisher s d.opening v (Err fault.NoMemory)) (sym c.into_publisher.ensures.same) (record {
         came = shown_front g.P.Publisher s d c.requires.desk run count shown;
@@ -28,8 +29,8 @@ returns-in-Some-Halt g c =
     let d = c.args.desk in
     let run : IsRun s = record { lawful = c.requires.lawful; numbers = c.numbers_fit.ensures } in
     let x = c.in-Some-Halt.field-0-0 in
-    let halted : d.stop ≡ Some (stop.Halt x) = sym c.stop.ensures.same ∙ c.in-Some-Halt.is ∙ ap Some c.in-Some-Halt.field-0-is in
-    let (count, shown) = c.stop.ensures.shown (halted_unrefused d.stop x halted) in
+    let halted : stop_of d ≡ Some (stop.Halt x) = sym c.stop.ensures.same ∙ c.in-Some-Halt.is ∙ ap Some c.in-Some-Halt.field-0-is in
+    let (count, shown) = c.stop.ensures.shown (halted_unrefused (stop_of d) x halted) in
     record {
       came = subst (λ v. CameTo g.P.Publisher s d.opening v (Err fault.NoMemory)) (sym c.into_publisher-in-Some-Halt.ensures.same) (record {
         came = shown_front g.P.Publisher s d c.requires.desk run count shown;
@@ -41,7 +42,7 @@ returns-in-Some-Halt g c =
 pub returns-in-Some-Refusal : goal.returns-in-Some-Refusal
 returns-in-Some-Refusal g c =
     let x = c.in-Some-Refusal.refusal in
-    let is : c.args.desk.stop ≡ Some (stop.Refusal x) = search rules in
+    let is : stop_of c.args.desk ≡ Some (stop.Refusal x) = search rules in
     record {
       came = refused_came g.P.Publisher c.args.setting.now c.args.desk c.requires.desk
           (record { lawful = c.requires.lawful; numbers = c.numbers_fit.ensures }) x

@@ -5,11 +5,13 @@ use Rattle.brace_pieces.specs.declared.setting.Stage.TheVariants as stage
 use Rattle.brace_pieces.specs.declared.setting.Setting.{Setting}
 use Rattle.brace_pieces.specs.Steps.{steps}
 use Rattle.brace_pieces.specs.declared.piece.Shown.{Shown}
-use Rattle.brace_part.specs.declared.standing.Stance.{Stance}
+use Rattle.brace_herd.specs.declared.stance.Stance.{Stance}
 use Rattle.brace_part.specs.declared.standing.Standing.{Standing}
 use Rattle.brace_pieces.specs.Courses.{step_of}
-use Rattle.brace_part.specs.Parts.{found_in_work, brings_at}
-use Rattle.brace_part.specs.inner.Ready.{IsReadyBehind, AreKept}
+use Rattle.brace_herd.specs.Works.{found_in_work}
+use Rattle.brace_part.specs.Parts.{brings_at}
+use Rattle.brace_herd.specs.Ready.{IsReadyBehind}
+use Rattle.brace_part.specs.inner.Ready.{AreKept}
 use Rattle.brace_part.specs.inner.Sound.{ComesTo}
 use Rattle.brace_pieces.proofs.StepLemmas.{of_run}
 use Rattle.brace_part.proofs.ShownLemmas.{is_noted}

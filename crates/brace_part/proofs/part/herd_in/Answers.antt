@@ -1,5 +1,5 @@
 use Rattle.std.proofs.Common.{◌≡◌, IfOk, subst, sym}
-use Rattle.brace_part.specs.declared.standing.Stance.{Stance}
+use Rattle.brace_herd.specs.declared.stance.Stance.{Stance}
 use Rattle.brace_part.specs.inner.Sound.{owns_in}
 use Rattle.brace_part.proofs.part.herd_in.Goals as goal
 

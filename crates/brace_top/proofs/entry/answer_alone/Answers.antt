@@ -1,17 +1,7 @@
 use Rattle.std.proofs.Common.{◌≡◌, Ok, rules}
-use Rattle.brace_top.specs.declared.prepare.Work.TheVariants as work
-use Rattle.brace_top.proofs.AnswerLemmas.{plain_runs, plain_serves, saving_runs, saving_serves}
+use Rattle.brace_command.specs.declared.preparing.Work.TheVariants as work
+use Rattle.brace_command.proofs.AnswerLemmas.{plain_serves, saving_serves}
 use Rattle.brace_top.proofs.entry.answer_alone.Goals as goal
-
-pub crew_alone-requires : goal.crew_alone-requires
-crew_alone-requires g c =
-    let is : c.begin.result ≡ Ok (work.Plain c.in-Plain.task) = search rules in
-    record { task = plain_runs g.S.Shelf g.O.Sink _ _ _ _ _ _ _ is c.begin.ensures.prepared }
-
-pub crew_alone-requires-in-Saving : goal.crew_alone-requires-in-Saving
-crew_alone-requires-in-Saving g c =
-    let is : c.begin.result ≡ Ok (work.Saving c.in-Saving.task) = search rules in
-    record { task = saving_runs g.S.Shelf g.O.Sink _ _ _ _ _ _ _ is c.begin.ensures.prepared }
 
 pub returns-in-Plain-clause-served : goal.returns-in-Plain-clause-served
 returns-in-Plain-clause-served g c =

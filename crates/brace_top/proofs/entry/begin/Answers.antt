@@ -1,6 +1,6 @@
 use Rattle.std.proofs.Common.{map, string_bytes}
 use Rattle.std.proofs.lemmas.Result.{err_from_is_err_and}
-use Rattle.brace_top.proofs.AnswerLemmas.{asked_prepared, unasked_serves}
+use Rattle.brace_command.proofs.AnswerLemmas.{asked_prepared, unasked_serves}
 use Rattle.brace_top.proofs.entry.begin.Goals as goal
 
 pub returns-in_err-command-clause-prepared : goal.returns-in_err-command-clause-prepared

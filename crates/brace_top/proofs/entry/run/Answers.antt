@@ -1,4 +1,4 @@
-use Rattle.brace_top.specs.inner.Settled.{message_in}
+use Rattle.brace_command.specs.Settled.{message_in}
 use Rattle.brace_top.proofs.entry.run.Goals as goal
 
 pub returns-clause-answered : goal.returns-clause-answered

@@ -1,8 +1,8 @@
 use Rattle.std.proofs.Common.{◌∙◌, ap, ◌≤◌, map, string_bytes, arith}
-use Rattle.brace_top.specs.Status.{code_of}
-use Rattle.brace_top.specs.inner.Settled.{message_in, status_in}
-use Rattle.brace_top.specs.inner.Words.{IsReadAs}
-use Rattle.brace_top.proofs.AnswerLemmas.{several_unread}
+use Rattle.brace_command.specs.Status.{code_of}
+use Rattle.brace_command.specs.Settled.{message_in, status_in}
+use Rattle.brace_command.specs.Words.{IsReadAs}
+use Rattle.brace_command.proofs.AnswerLemmas.{several_unread}
 use Rattle.brace_top.proofs.entry.run_alone.Goals as goal
 
 pub returns-clause-not_several : goal.returns-clause-not_several

@@ -1,8 +1,8 @@
 use Rattle.std.proofs.Common.{◌≡◌, Some, refl, rules}
 use Rattle.std.proofs.lemmas.Result.{err_from_is_err_and}
-use Rattle.brace_top.specs.inner.Settled.{keeper_call}
+use Rattle.brace_command.specs.Settled.{keeper_call}
 use Rattle.brace_top.proofs.CameLemmas.{has_come, task_run}
-use Rattle.brace_top.proofs.TrialLemmas.{came_as, trial_run, unflushed_run}
+use Rattle.brace_top.proofs.TrialEnds.{came_as, trial_run, unflushed_run}
 use Rattle.brace_top.proofs.flow.crew_on.Goals as goal
 
 pub returns-clause-run : goal.returns-clause-run

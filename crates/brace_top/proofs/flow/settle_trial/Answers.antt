@@ -1,7 +1,8 @@
 use Rattle.std.proofs.Common.{◌≡◌, Err, rules}
 use Rattle.brace_crew.specs.declared.crew.CrewFault.TheVariants as crew
-use Rattle.brace_top.specs.inner.Words.{said_trial}
-use Rattle.brace_top.proofs.TrialLemmas.{trial_told, trial_faulted, went_on, stopped_by, written_for}
+use Rattle.brace_command.specs.Words.{said_trial}
+use Rattle.brace_top.proofs.TrialEnds.{trial_told, trial_faulted, went_on, stopped_by}
+use Rattle.brace_command.proofs.TrialLemmas.{written_for}
 use Rattle.brace_top.proofs.flow.settle_trial.Goals as goal
 
 pub returns-in-Ok-clause-written : goal.returns-in-Ok-clause-written

@@ -1,8 +1,8 @@
 use Rattle.std.proofs.Common.{◌∙◌, refl, ap, subst, ℕ, List}
 use Rattle.std.proofs.lemmas.Result.{err_from_is_err_and}
 use Rattle.brace_io.specs.Sinks.{with_piece, GainsFront}
-use Rattle.brace_top.specs.Answer.{sink_call}
-use Rattle.brace_top.proofs.AnswerLemmas.{told_written, unwritten_written, rose_before, front_all}
+use Rattle.brace_command.specs.Answer.{sink_call}
+use Rattle.brace_command.proofs.AnswerLemmas.{told_written, unwritten_written, rose_before, front_all}
 use Rattle.brace_top.proofs.flow.tell_trial.Goals as goal
 
 pub returns-in_err-write_whole-clause-written : goal.returns-in_err-write_whole-clause-written

@@ -1,6 +1,6 @@
 use Rattle.std.proofs.Common.{◌≡◌, None, subst}
 use Rattle.brace_part.specs.Parts.{OnPart}
-use Rattle.brace_part.specs.Given.{counts_up_to}
+use Rattle.brace_pieces.specs.Given.{counts_up_to}
 use Rattle.brace_part.proofs.part.Part.counts.Goals as goal
 
 pub returns-clause-given : goal.returns-clause-given

@@ -23,8 +23,8 @@ owns c =
     let i = c.self.inside in
     subst (λ (v : OnPart). v.cause ≡ None → IsSettled (step_of v.course)
     → v.owns ≡ own_at v.course.setting v.course.actor (step_of v.course)) c.self.view_is
-    (λ none settled. owns_at i.course.setting i.course.actor
-    (step_of i.course) i.standing.stance settled (c.self.invariant.goes_on none).ready)
+    (λ none settled. owns_at i.turns.course.setting i.turns.course.actor
+    (step_of i.turns.course) i.standing.stance settled (c.self.invariant.goes_on none).ready)
 
 pub returns-clause-owner : goal.returns-clause-owner
 returns-clause-owner c =

@@ -2,7 +2,7 @@ use Rattle.std.proofs.Common.{sym, subst, ◌+◌, arith}
 use Rattle.brace_core.specs.Lanes.{AreBelow}
 use Rattle.brace_pieces.specs.Steps.{schedule}
 use Rattle.brace_pieces.proofs.LanesFor.{few_actors, parts_below, schedule_short}
-use Rattle.brace_part.proofs.LawfulOn.{on_lawful}
+use Rattle.brace_herd.proofs.LawfulOn.{on_lawful}
 use Rattle.brace_crew.proofs.BytesLemmas.{have_bytes}
 use Rattle.brace_run_tests.proofs.tests.crews.run_linked.Goals as goal
 

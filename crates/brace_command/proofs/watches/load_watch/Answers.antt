@@ -1,0 +1,24 @@
+use Rattle.std.proofs.Common.{◌≡◌, ap, Some, Err}
+use Rattle.std.proofs.lemmas.Result.{err_from_is_err_and}
+use Rattle.brace_command.specs.Outcome.{watches_of, watches_from}
+use Rattle.brace_command.proofs.AnswerLemmas.{unloaded_as}
+use Rattle.brace_command.proofs.WatchLemmas.{watches_read, watch_unloads}
+use Rattle.brace_command.proofs.watches.load_watch.Goals as goal
+
+pub returns-in_err-bytes-clause-loads : goal.returns-in_err-bytes-clause-loads
+returns-in_err-bytes-clause-loads g c =
+    let p = err_from_is_err_and c.from_residual.result c.from_residual.ensures.1 in
+    rw (p.1, p.2) (unloaded_as _ (λ files found. watches_of files c.args.program.now (Some c.args.name.now) ≡ found) c.args.name.now _ _
+    (λ files r e. ap (watches_from c.args.program.now c.args.name.now) e) c.in_err-bytes.ensures.loads)
+
+pub returns-in-Ok-clause-loads : goal.returns-in-Ok-clause-loads
+returns-in-Ok-clause-loads g c = record {
+  found = λ files told. watches_read c.args.program.now files c.args.name.now c.in_ok-bytes.bytes.items _ (c.in_ok-bytes.ensures.loads.found files told)
+      (rw c.as_slice.ensures.value at c.in-Ok.ensures.faultless) (rw c.as_slice.ensures.value at c.in-Ok.ensures.watches);
+  counts = c.in_ok-bytes.ensures.loads.counts;
+}
+
+pub returns-clause-loads : goal.returns-clause-loads
+returns-clause-loads g c =
+    watch_unloads c.args.program.now c.args.name.now c.in_ok-bytes.bytes.items _ _ _ c.in_ok-bytes.ensures.loads.counts c.in_ok-bytes.ensures.loads.found
+    (λ number kind e. rw c.as_slice.ensures.value at (c.in-Err.ensures.first number kind (ap (λ f. Err f) e))) c.refuse_watch.ensures

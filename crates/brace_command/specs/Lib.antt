@@ -1,0 +1,16 @@
+pub mod Answer
+pub mod Balances
+pub mod Commands
+pub mod Limits
+pub mod Messages
+pub mod Outcome
+pub mod Places
+pub mod PlanText
+pub mod Prepared
+pub mod Restarts
+pub mod Savings
+pub mod Scripts
+pub mod Settled
+pub mod Status
+pub mod Trials
+pub mod Words

@@ -1,0 +1,9 @@
+pub mod SaveLemmas
+pub mod TextLemmas
+pub mod RiseLemmas
+pub mod EndCalls
+pub mod DeskCourses
+pub mod DeskKept
+pub mod DeskTurns
+pub mod DeskWorks
+pub mod JoinLemmas

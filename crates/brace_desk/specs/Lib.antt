@@ -1,0 +1,9 @@
+pub mod Calls
+pub mod Desks
+pub mod Filed
+pub mod Lots
+pub mod Refusals
+pub mod Shows
+pub mod Sums
+pub mod Watched
+pub mod inner

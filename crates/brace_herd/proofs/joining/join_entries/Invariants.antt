@@ -1,0 +1,17 @@
+use Rattle.std.proofs.Common.{List, drop}
+use Rattle.std.specs.Prelude.{nat_eq}
+use Rattle.std.specs.List.{IsDistinct}
+use Rattle.brace_model.specs.declared.world.Agent.{Agent}
+use Rattle.brace_model.specs.World.{ids}
+use Rattle.brace_model.specs.Query.{Saying}
+use Rattle.brace_fold.specs.Rows.{AreMoved}
+use Rattle.brace_herd.specs.inner.Tables.{TellsBy}
+use Rattle.brace_herd.proofs.HoldLemmas.{SoFarJoined}
+use Rattle.brace_herd.proofs.joining.join_entries.Given as goal
+
+abbrev pub invariant-loop-entry : goal.invariant-loop-entry
+invariant-loop-entry l = (all : List Agent) (told : List Saying)
+    → AreMoved all l.rows → IsDistinct nat_eq (ids all)
+    → TellsBy l.program all l.entries told
+    → SoFarJoined l.program all told l.fn.said l.said
+    (TellsBy l.program all (drop l.entry-index l.entries))

@@ -1,0 +1,7 @@
+pub mod Holding
+pub mod Placed
+pub mod Ready
+pub mod Said
+pub mod Workers
+pub mod Works
+pub mod inner

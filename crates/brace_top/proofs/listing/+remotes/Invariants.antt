@@ -1,6 +1,0 @@
-use Rattle.std.proofs.Common.{◌≡◌, ◌++◌, take}
-use Rattle.brace_top.specs.PlanText.{remotes_of}
-use Rattle.brace_top.proofs.listing.+remotes.Given as goal
-
-abbrev pub invariant-add_remotes-loop-s : goal.invariant-add_remotes-loop-s
-invariant-add_remotes-loop-s l = l.found ≡ l.initial.found ++ remotes_of l.around (take l.s-index l.block)

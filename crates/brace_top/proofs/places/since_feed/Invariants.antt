@@ -1,9 +1,0 @@
-use Rattle.std.proofs.Common.{◌≡◌, ◌≤◌, take}
-use Rattle.brace_top.specs.Places.{since_feed}
-use Rattle.brace_top.proofs.places.since_feed.Given as goal
-
-abbrev pub invariant-loop-byte : goal.invariant-loop-byte
-invariant-loop-byte l = record {
-  count : l.since ≡ since_feed (take l.byte-index l.text);
-  bound : l.since ≤ l.byte-index;
-}
