@@ -24,13 +24,13 @@ program, script = sys.argv[1:]
 TICKS = 10
 # How many fish, and how often they are run.
 ROUNDS = {
-    15_625: 9,
-    31_250: 9,
-    62_500: 9,
-    125_000: 5,
-    250_000: 3,
-    500_000: 2,
-    1_000_000: 2,
+    15_625: 25,
+    31_250: 25,
+    62_500: 15,
+    125_000: 9,
+    250_000: 7,
+    500_000: 5,
+    1_000_000: 3,
 }
 draw = random.Random(7).random
 
@@ -76,6 +76,7 @@ for count in ROUNDS:
     times = [f"{b / a:.2f}" for a, b in zip(before, now)] if before else ["", ""]
     lines.append(f"| {count:,} | {now[0]:.4f} | {times[0]} | {now[1]:.4f} | {times[1]} |")
     before = now
-how = f"least of 9 to 2 runs of {TICKS} ticks, the worlds in turn"
+most, fewest = max(ROUNDS.values()), min(ROUNDS.values())
+how = f"least of {most} to {fewest} runs of {TICKS} ticks, the worlds in turn"
 written("Growth at one density", lines, how)
 P
