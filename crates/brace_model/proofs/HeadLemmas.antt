@@ -220,6 +220,37 @@ module _ (blocks : List Block) (heads : List Head) (place : ℕ) (h : Head)
         ap number (sym (value-past b.types (drop h.start b.words) state past))
         ∙ ap (λ (a : Agent). number (value_at a.states state)) (sym (agent-by d))
 
+-- a state of the agent at a place of a list, by the block that is read
+module _ (blocks : List Block) (heads : List Head) (agents : List Agent) (place : ℕ) (h : Head)
+    (b shared : Block) (are : agents_of blocks heads ≡ agents) (within : AreWithin blocks heads)
+    (inside : place < length agents) (read : h ≡ get_or heads place h) (same : b ≡ shared)
+    (there : shared ≡ get_or blocks h.block shared) where
+  low : place < length heads
+  low = as_many blocks heads agents place are inside
+
+  is : b ≡ get_or blocks h.block b
+  is = subst (λ (x : Block). x ≡ get_or blocks h.block x) (sym same) there
+
+  pub state-there : (d : Agent) (state : ℕ) (t : Ty) (w : ℤ) → state < length b.types
+      → typed (get_or b.types state t) (get_or b.words (h.start + state) w)
+      ≡ value_at (get_or agents place d).states state
+  state-there d state t w less =
+      number-there blocks heads place h low read within b is d state t w less
+      ∙ ap (λ (l : List Agent). value_at (get_or l place d).states state) are
+
+  pub state-past : (d : Agent) (state : ℕ) → length b.types ≤ state
+      → pos 0 ≡ number (value_at (get_or agents place d).states state)
+  state-past d state past =
+      number-past blocks heads place h low read within b is d state past
+      ∙ ap (λ (l : List Agent). number (value_at (get_or l place d).states state)) are
+
+-- heads that are moved by as many blocks as there are
+pub moved-by : (blocks : List Block) (told others moved : List Head) (first : ℕ)
+    → first ≡ length blocks → told ≡ others → moved ≡ map (shifted first) told
+    → moved ≡ map (shifted (length blocks)) others
+moved-by blocks told others moved first at same is =
+    is ∙ ap₂ (λ n (l : List Head). map (shifted n) l) at same
+
 -- heads whose blocks stay where they stand
 pub shifted-none : (heads : List Head) → map (shifted 0) heads ≡ heads
 shifted-none [] = refl
