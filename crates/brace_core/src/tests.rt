@@ -1,8 +1,10 @@
-ghost use Rattle.std.specs.Prelude.{◌≡◌, ◌<◌};
+ghost use Rattle.std.specs.Prelude.{◌≡◌, ◌<◌, [], ◌∷◌, map};
 ghost use Rattle.brace_core.specs.Schedule.{front, turns};
 ghost use Rattle.brace_core.specs.inner.Small.{small};
 
 use super::*;
+use brace_num::NoMemory;
+use std::alloc::Global;
 use std::cell::Cell;
 use std::test::Fail;
 
@@ -159,6 +161,18 @@ impl<'a> Walker<'a> {
     }
 }
 
+/// Three actors before their first turns, which log in one place.
+fn walkers(log: &Log) -> [Walker<'_>; 3]
+    ensures numbers { map (λ walker. walker.number) result ≡ 0 ∷ 1 ∷ 2 ∷ [] }
+    ensures pasts { map (λ walker. walker.past) result ≡ 0 ∷ 0 ∷ 0 ∷ [] }
+{
+    [
+        Walker::new(0, log),
+        Walker::new(1, log),
+        Walker::new(2, log),
+    ]
+}
+
 impl Actor<Parcel> for Walker<'_> {
     ghost use Rattle.brace_core.specs.declared.tests.Small.{Small};
 
@@ -219,17 +233,19 @@ static TRACES: [u64; 16] = [
     1217283060901450,
 ];
 
+/// What three actors log whom an order leads from their first turns to their last ones.
+fn logged(alloc: Global, order: u64) -> Result<Log, NoMemory> {
+    let log = Log::empty();
+    let mut actors = walkers(&log);
+    let mut lanes = PlainLanes::<Parcel>::make(alloc, &Small, 3)?;
+    run_in_order(&mut actors, &mut lanes, order, 4);
+    Ok(log)
+}
+
 #[test]
 fn every_order_makes_as_many_events_as_there_are_turns(rt: HostRuntime) -> Result<(), Fail> {
     for (order, trace) in TRACES.iter().enumerate() {
-        let log = Log::empty();
-        let mut actors = [
-            Walker::new(0, &log),
-            Walker::new(1, &log),
-            Walker::new(2, &log),
-        ];
-        let mut lanes = PlainLanes::<Parcel>::make(rt.alloc(), &Small, 3)?;
-        run_in_order(&mut actors, &mut lanes, order as u64, 4);
+        let log = logged(rt.alloc(), order as u64)?;
         assert_eq!(rt; log.events.get(), 32, "order {order}");
         assert_eq!(rt; log.trace.get(), *trace, "order {order}");
     }
@@ -239,11 +255,7 @@ fn every_order_makes_as_many_events_as_there_are_turns(rt: HostRuntime) -> Resul
 #[test]
 fn fronts_one_behind_the_other_make_all_turns(rt: HostRuntime) -> Result<(), Fail> {
     let log = Log::empty();
-    let mut actors = [
-        Walker::new(0, &log),
-        Walker::new(1, &log),
-        Walker::new(2, &log),
-    ];
+    let mut actors = walkers(&log);
     let mut lanes = PlainLanes::<Parcel>::make(rt.alloc(), &Small, 3)?;
     run_in_order(&mut actors, &mut lanes, 5, 0);
     assert_eq!(rt; log.events.get(), 0);
