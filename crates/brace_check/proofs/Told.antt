@@ -118,7 +118,7 @@ quiet_class at (Some number) = record { none = refl; still = refl }
 
 quiet_loops : (n : Scope) (class other : Ident) → Quiet (f.loops_over n class other)
 quiet_loops n class other =
-    quiet_both (f.names_class class.at (class_number n class.text)) (f.names_again n class other) (quiet_class class.at (class_number n class.text))
+    quiet_both (f.names_class class.at (class_number n class.text)) (f.names_again class other (class_number n other.text)) (quiet_class class.at (class_number n class.text))
     (quiet_if (bytes_eq class.text other.text) (f.names_class other.at (class_number n other.text)) (f.fault (UnknownClass other.at))
     (quiet_class other.at (class_number n other.text)) (quiet_fault (UnknownClass other.at)))
 

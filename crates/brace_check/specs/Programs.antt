@@ -33,7 +33,8 @@ rule (Some x) scope = made (λ e. Some e) (expression x scope)
 abbrev pub gifts_in : List GiftTree → Scope → Meaning (List Gift)
 gifts_in [] scope = plain []
 gifts_in (g ∷ gifts) scope =
-    followed (λ e rest. record { state = number_of (look scope.home.own g.state.text); value = e } ∷ rest)
+    followed
+    (λ e rest. record { state = number_of (look scope.home.own g.state.text); value = e } ∷ rest)
     (expression g.value scope) (gifts_in gifts scope)
 
 -- a `spawn` at a place, whose own site comes after all those in it

@@ -1,6 +1,7 @@
 ghost use Rattle.std.specs.Prelude.{◌≡◌, ◌++◌, map, flat_map, length, Some, OnOk, IfOk};
 ghost use Rattle.brace_model.specs.declared.program.Ty.TheVariants as ty;
-ghost use Rattle.brace_names.specs.Scopes.{Home, home_of, outermost, is_query, class_number, inside, past, declaring};
+ghost use Rattle.brace_names.specs.Tables.{look};
+ghost use Rattle.brace_names.specs.Scopes.{Home, home_of, outermost, is_query, class_number, of_loop, inside, past, declaring};
 ghost use Rattle.brace_names.specs.Walk.{behind, block, constants_in, in_classes};
 ghost use Rattle.brace_check.specs.Findings.{nests, loops_over};
 ghost use Rattle.brace_check.specs.Found.{expression, valued, says, says_to_loop, part, rule, gift, member};
@@ -72,6 +73,82 @@ fn constant<'a>(
     scope.declare(name, ty)
 }
 
+// The head of a loop at an offset, behind which its block begins.
+fn head<'a>(
+    out: &mut Vec<CheckFault>,
+    scope: &mut Scope<'_, '_, 'a>,
+    class: &Ident,
+    variable: &'a Ident,
+    at: u32,
+) -> Result<(), NoMemory>
+    ensures found { OnOk result (out.new.items ≡ out.old.items
+        ++ nests scope.old at ++ loops_over class.now.at (class_number scope.old class.now.text)) }
+    ensures inside { OnOk result (scope.new ≡ inside class.now variable.now scope.old) }
+{
+    nest(out, scope, at)?;
+    loop_over(out, class.at, scope.class_number(class.text.as_bytes()))?;
+    scope.enter(class, variable)
+}
+
+// A value is said to a field, in an assignment at an offset.
+fn said(
+    out: &mut Vec<CheckFault>,
+    scope: &Scope,
+    at: u32,
+    target: Option<Field>,
+    x: &ExprTree,
+) -> Result<(), NoMemory>
+    ensures { OnOk result (out.new.items ≡ out.old.items ++ says at target x.now scope.now) }
+{
+    assign(out, at, target)?;
+    value(out, scope, wanted(target), x)
+}
+
+// An assignment to a field of `this`, at an offset.
+fn assigned(
+    out: &mut Vec<CheckFault>,
+    scope: &Scope,
+    at: u32,
+    name: &Ident,
+    x: &ExprTree,
+) -> Result<(), NoMemory>
+    ensures { OnOk result (out.new.items ≡ out.old.items
+        ++ says at (look scope.now.home.own name.now.text) x.now scope.now) }
+{
+    said(out, scope, at, scope.field(name.text.as_bytes()), x)
+}
+
+// A value is said to a field of the agent of a loop, in an assignment at an offset.
+fn said_to_loop(
+    out: &mut Vec<CheckFault>,
+    scope: &Scope,
+    at: u32,
+    target: Option<LoopField>,
+    x: &ExprTree,
+) -> Result<(), NoMemory>
+    ensures { OnOk result (out.new.items ≡ out.old.items
+        ++ says_to_loop at target x.now scope.now) }
+{
+    cross(out, scope, at, target)?;
+    said(out, scope, at, target.map(|found| found.field), x)
+}
+
+// An assignment to a field of the agent of a loop.
+fn given_to_loop(
+    out: &mut Vec<CheckFault>,
+    scope: &Scope,
+    variable: &Ident,
+    name: &Ident,
+    x: &ExprTree,
+) -> Result<(), NoMemory>
+    ensures { OnOk result (out.new.items ≡ out.old.items
+        ++ says_to_loop variable.now.at
+        (of_loop scope.now variable.now.text name.now.text) x.now scope.now) }
+{
+    let found = scope.of_loop(variable.text.as_bytes(), name.text.as_bytes());
+    said_to_loop(out, scope, variable.at, found, x)
+}
+
 #[cycle(statements)]
 fn statement<'a>(
     out: &mut Vec<CheckFault>,
@@ -94,21 +171,10 @@ fn statement<'a>(
         StmtTree::Foreach(class, variable, _, statements, at) => {
             each(out, scope, class, variable, statements, *at)
         }
-        StmtTree::Assign(name, x) => {
-            said(
-                out,
-                scope,
-                name.at,
-                scope.field(name.text.as_bytes()),
-                x.get(),
-            )
-        }
-        StmtTree::AssignThis(name, x, at) => {
-            said(out, scope, *at, scope.field(name.text.as_bytes()), x.get())
-        }
+        StmtTree::Assign(name, x) => assigned(out, scope, name.at, name, x.get()),
+        StmtTree::AssignThis(name, x, at) => assigned(out, scope, *at, name, x.get()),
         StmtTree::AssignLoop(variable, name, x) => {
-            let found = scope.of_loop(variable.text.as_bytes(), name.text.as_bytes());
-            said_to_loop(out, scope, variable.at, found, x.get())
+            given_to_loop(out, scope, variable, name, x.get())
         }
     }
 }
@@ -131,41 +197,10 @@ fn each<'a>(
 {
     let loops = scope.loops();
     let names = scope.len();
-    nest(out, scope, at)?;
-    loop_over(out, class.at, scope.class_number(class.text.as_bytes()))?;
-    scope.enter(class, variable)?;
+    head(out, scope, class, variable, at)?;
     block(out, scope, statements)?;
     scope.leave(loops, names);
     Ok(())
-}
-
-// A value is said to a field, in an assignment at an offset.
-fn said(
-    out: &mut Vec<CheckFault>,
-    scope: &Scope,
-    at: u32,
-    target: Option<Field>,
-    x: &ExprTree,
-) -> Result<(), NoMemory>
-    ensures { OnOk result (out.new.items ≡ out.old.items ++ says at target x.now scope.now) }
-{
-    assign(out, at, target)?;
-    value(out, scope, wanted(target), x)
-}
-
-// A value is said to a field of the agent of a loop, in an assignment at an offset.
-fn said_to_loop(
-    out: &mut Vec<CheckFault>,
-    scope: &Scope,
-    at: u32,
-    target: Option<LoopField>,
-    x: &ExprTree,
-) -> Result<(), NoMemory>
-    ensures { OnOk result (out.new.items ≡ out.old.items
-        ++ says_to_loop at target x.now scope.now) }
-{
-    cross(out, scope, at, target)?;
-    said(out, scope, at, target.map(|found| found.field), x)
 }
 
 // Notes what is found in a block, and leaves its scope.

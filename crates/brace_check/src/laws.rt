@@ -20,8 +20,8 @@ pub fn answers_are_first()
 
 /// Whatever the checks of names find in it, the program of a script in which these checks find
 /// nothing has ranges from 0 to 1,000,000 units, combinators that fit, rules of the types of their
-/// states, bool conditions of `die`, a number of its own for each constant of a class, and sites that
-/// rise in finishing order.
+/// states, bool conditions of `die`, a number of its own for each constant of a class, and sites
+/// that rise in finishing order.
 pub fn accepted_programs_are_checked()
     ensures { (r : Resolved) → faults r ≡ [] → IsChecked (program_of r) }
 {}
@@ -33,8 +33,9 @@ pub fn counted_sites_are_numbered()
 {}
 
 /// The sites of the program of a script that is read from a source and resolved are numbered from 0
-/// in turn over its classes, over their members and over their statements, in the order of the text:
-/// in an expression each operation behind its operands, in a `spawn` its own site behind its gifts.
+/// in turn over its classes, over their members and over their statements, in the order of the
+/// text: in an expression each operation behind its operands, in a `spawn` its own site behind its
+/// gifts.
 pub fn sites_are_numbered_in_text_order()
     ensures { (src : List ℕ) (r : Resolved) → IsResolved src r
         → in_text_order r.tree.classes (program_of r).classes

@@ -43,8 +43,8 @@ fn literal(digits: Digits) -> Value
     }
 }
 
-/// The number of a field among the states or the effects of its class; of nothing 0, which no resolved
-/// script has.
+/// The number of a field among the states or the effects of its class; of nothing 0, which no
+/// resolved script has.
 pub fn number_of(field: Option<Field>) -> u32
     ensures { result ≡ number_of field }
 {
@@ -142,57 +142,43 @@ pub fn expression(
     sites: &mut Vec<u32>,
     scope: &Scope,
     x: &ExprTree,
-) -> Result<Expr, NoMemory>
-    ensures noted { OnOk result (sites.new.items
-        ≡ (expression x.now scope.now sites.old.items).1) }
-    ensures meant { IfOk result (λ e. e
-        ≡ (expression x.now scope.now sites.old.items).0) }
-{
-    match x {
-        ExprTree::Lit(number) => Ok(Expr::Lit(literal(number.digits))),
-        ExprTree::True(_) => Ok(Expr::Lit(Value::Flag(true))),
-        ExprTree::False(_) => Ok(Expr::Lit(Value::Flag(false))),
-        ExprTree::Name(name) => {
-            named_as(sites, scope, name.at, scope.read(name.text.as_bytes()))
-        }
-        ExprTree::OfThis(name, at) => {
-            named_as(sites, scope, *at, scope.read_own(name.text.as_bytes()))
-        }
-        ExprTree::OfLoop(variable, name) => {
-            let found = scope.of_loop(variable.text.as_bytes(), name.text.as_bytes());
-            Ok(Expr::Field(agent_of(found), loop_number(found)))
-        }
-        ExprTree::Unary(op, x, at) => {
-            let x = operand(alloc, sites, scope, x.get())?;
-            unary(sites, unary_named(*op), x, *at)
-        }
-        ExprTree::Binary(op, x, y, at) => {
-            let x = operand(alloc, sites, scope, x.get())?;
-            let y = operand(alloc, sites, scope, y.get())?;
-            binary(sites, binary_named(*op), x, y, *at)
-        }
-        ExprTree::Choice(c, x, y, _) => {
-            let c = operand(alloc, sites, scope, c.get())?;
-            let x = operand(alloc, sites, scope, x.get())?;
-            let y = operand(alloc, sites, scope, y.get())?;
-            Ok(Expr::Choice(c, x, y))
-        }
-        ExprTree::Rand(at) => Ok(Expr::Rand(site(sites, *at)?)),
-    }
-}
-
-// What an expression means, in a box.
-#[cycle(expressions)]
-fn operand(
-    alloc: Global,
-    sites: &mut Vec<u32>,
-    scope: &Scope,
-    x: &ExprTree,
 ) -> Result<Boxed<Expr>, NoMemory>
     ensures noted { OnOk result (sites.new.items
         ≡ (expression x.now scope.now sites.old.items).1) }
     ensures meant { IfOk result (λ e. e
         ≡ (expression x.now scope.now sites.old.items).0) }
 {
-    Boxed::new(alloc, expression(alloc, sites, scope, x)?)
+    match x {
+        ExprTree::Lit(number) => Boxed::new(alloc, Expr::Lit(literal(number.digits))),
+        ExprTree::True(_) => Boxed::new(alloc, Expr::Lit(Value::Flag(true))),
+        ExprTree::False(_) => Boxed::new(alloc, Expr::Lit(Value::Flag(false))),
+        ExprTree::Name(name) => {
+            let named = scope.read(name.text.as_bytes());
+            Boxed::new(alloc, named_as(sites, scope, name.at, named)?)
+        }
+        ExprTree::OfThis(name, at) => {
+            let named = scope.read_own(name.text.as_bytes());
+            Boxed::new(alloc, named_as(sites, scope, *at, named)?)
+        }
+        ExprTree::OfLoop(variable, name) => {
+            let found = scope.of_loop(variable.text.as_bytes(), name.text.as_bytes());
+            Boxed::new(alloc, Expr::Field(agent_of(found), loop_number(found)))
+        }
+        ExprTree::Unary(op, x, at) => {
+            let x = expression(alloc, sites, scope, x.get())?;
+            Boxed::new(alloc, unary(sites, unary_named(*op), x, *at)?)
+        }
+        ExprTree::Binary(op, x, y, at) => {
+            let x = expression(alloc, sites, scope, x.get())?;
+            let y = expression(alloc, sites, scope, y.get())?;
+            Boxed::new(alloc, binary(sites, binary_named(*op), x, y, *at)?)
+        }
+        ExprTree::Choice(c, x, y, _) => {
+            let c = expression(alloc, sites, scope, c.get())?;
+            let x = expression(alloc, sites, scope, x.get())?;
+            let y = expression(alloc, sites, scope, y.get())?;
+            Boxed::new(alloc, Expr::Choice(c, x, y))
+        }
+        ExprTree::Rand(at) => Boxed::new(alloc, Expr::Rand(site(sites, *at)?)),
+    }
 }

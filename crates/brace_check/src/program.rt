@@ -10,21 +10,41 @@ use brace_num::{List, NoMemory, Text};
 use brace_syntax::{ClassTree, MemberTree};
 use std::alloc::Global;
 
+// Adds the effect that a member declares, if it does.
+fn add_effect(alloc: Global, all: &mut List<Effect>, member: &MemberTree) -> Result<(), NoMemory>
+    ensures { OnOk result (all.new ≡ all.old ++ effect_of member.now) }
+{
+    if let MemberTree::Effect(shared, ty, name, comb, _) = member {
+        all.push(Effect {
+            name: name.text.copy(alloc)?,
+            ty: type_named(ty),
+            shared: *shared,
+            comb: comb_named(*comb),
+        })?;
+    }
+    Ok(())
+}
+
+// Adds the effects that members declare.
+fn add_effects(
+    alloc: Global,
+    all: &mut List<Effect>,
+    members: &[MemberTree],
+) -> Result<(), NoMemory>
+    ensures { OnOk result (all.new ≡ all.old ++ flat_map effect_of members.now) }
+{
+    for member in members {
+        add_effect(alloc, all, member)?;
+    }
+    Ok(())
+}
+
 // The effects that members declare.
 fn effects(alloc: Global, members: &[MemberTree]) -> Result<List<Effect>, NoMemory>
     ensures { IfOk result (λ all. all ≡ flat_map effect_of members.now) }
 {
     let mut all = List::new(alloc);
-    for member in members {
-        if let MemberTree::Effect(shared, ty, name, comb, _) = member {
-            all.push(Effect {
-                name: name.text.copy(alloc)?,
-                ty: type_named(ty),
-                shared: *shared,
-                comb: comb_named(*comb),
-            })?;
-        }
-    }
+    add_effects(alloc, &mut all, members)?;
     Ok(all)
 }
 

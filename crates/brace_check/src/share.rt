@@ -1,6 +1,8 @@
-ghost use Rattle.std.specs.Prelude.{◌≡◌, map, OnOk, IfOk};
+ghost use Rattle.std.specs.Prelude.{◌≡◌, ◌++◌, map, OnOk, IfOk};
 ghost use Rattle.brace_names.specs.Kinds.{type_named};
+ghost use Rattle.brace_names.specs.Tables.{look};
 ghost use Rattle.brace_names.specs.Scopes.{Home, outermost, is_query};
+ghost use Rattle.brace_check.specs.Meanings.{number_of, expression};
 ghost use Rattle.brace_check.specs.Programs.{rule, gifts_in, spawn_of, no_share, share, shared_by, shares};
 
 use crate::meaning::{expression, number_of, site};
@@ -31,7 +33,7 @@ fn rule(
     ensures meant { IfOk result (λ r. r ≡ (rule x.now scope.now sites.old.items).0) }
 {
     match x {
-        Some(x) => Ok(Some(expression(alloc, sites, scope, x.get())?)),
+        Some(x) => Ok(Some(expression(alloc, sites, scope, x.get())?.into_inner())),
         None => Ok(None),
     }
 }
@@ -65,6 +67,44 @@ fn state(
     })
 }
 
+// What a gift means.
+fn gift(
+    alloc: Global,
+    sites: &mut Vec<u32>,
+    scope: &Scope,
+    one: &GiftTree,
+) -> Result<Gift, NoMemory>
+    ensures noted { OnOk result (sites.new.items
+        ≡ (expression one.now.value scope.now sites.old.items).1) }
+    ensures meant { IfOk result (λ gift. gift ≡ record {
+      state = number_of (look scope.now.home.own one.now.state.text);
+      value = (expression one.now.value scope.now sites.old.items).0;
+    }) }
+{
+    let state = number_of(scope.field(one.state.text.as_bytes()));
+    let value = expression(alloc, sites, scope, one.value.get())?.into_inner();
+    Ok(Gift { state, value })
+}
+
+// Adds what gifts mean.
+fn add_gifts(
+    alloc: Global,
+    sites: &mut Vec<u32>,
+    all: &mut List<Gift>,
+    scope: &Scope,
+    given: &[GiftTree],
+) -> Result<(), NoMemory>
+    ensures noted { OnOk result (sites.new.items
+        ≡ (gifts_in given.now scope.now sites.old.items).1) }
+    ensures meant { OnOk result (all.new
+        ≡ all.old ++ (gifts_in given.now scope.now sites.old.items).0) }
+{
+    for one in given {
+        all.push(gift(alloc, sites, scope, one)?)?;
+    }
+    Ok(())
+}
+
 // What the gifts of a `spawn` mean.
 fn gifts(
     alloc: Global,
@@ -78,11 +118,7 @@ fn gifts(
         ≡ (gifts_in given.now scope.now sites.old.items).0) }
 {
     let mut gifts = List::new(alloc);
-    for one in given.as_slice() {
-        let state = number_of(scope.field(one.state.text.as_bytes()));
-        let value = expression(alloc, sites, scope, one.value.get())?;
-        gifts.push(Gift { state, value })?;
-    }
+    add_gifts(alloc, sites, &mut gifts, scope, given.as_slice())?;
     Ok(gifts)
 }
 
@@ -103,6 +139,7 @@ fn spawn(
     let when = expression(alloc, sites, scope, condition)?;
     let gifts = gifts(alloc, sites, scope, given)?;
     let site = site(sites, at)?;
+    let when = when.into_inner();
     Ok(Spawn { when, gifts, site })
 }
 
@@ -130,7 +167,7 @@ fn add_in<'a>(
         }
         MemberTree::Die(condition, _) => {
             let condition = expression(alloc, sites, scope, condition.get())?;
-            all.die.push(condition)
+            all.die.push(condition.into_inner())
         }
         MemberTree::Spawn(condition, given, at) => {
             let spawn = spawn(alloc, sites, scope, condition.get(), given, *at)?;

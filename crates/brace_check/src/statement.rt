@@ -1,13 +1,13 @@
 ghost use Rattle.std.specs.Prelude.{◌≡◌, map, unwrap_or, OnOk, IfOk};
 ghost use Rattle.brace_model.specs.declared.program.Stmt.TheVariants as stmt;
 ghost use Rattle.brace_names.specs.Tables.{look};
-ghost use Rattle.brace_names.specs.Scopes.{inside, past, declaring};
+ghost use Rattle.brace_names.specs.Scopes.{of_loop, inside, past, declaring};
 ghost use Rattle.brace_names.specs.Walk.{behind, constants_in};
 ghost use Rattle.brace_check.specs.Meanings.{assigned, number_in, said, said_to_loop, expression, part, block};
 
 use crate::meaning::{agent_of, expression, loop_number, number_of};
 use brace_model::{Stmt, Ty, Who};
-use brace_names::{LoopField, Scope, type_named};
+use brace_names::{Scope, type_named};
 use brace_num::{List, NoMemory};
 use brace_syntax::{ExprTree, Ident, StmtTree};
 use std::alloc::Global;
@@ -28,7 +28,7 @@ fn assigned(
         ≡ (assigned who effect at (expression x.now scope.now) sites.old.items).0) }
 {
     let x = expression(alloc, sites, scope, x)?;
-    Ok(Stmt::Assign(who, effect, x, at))
+    Ok(Stmt::Assign(who, effect, x.into_inner(), at))
 }
 
 // A value said to a field of `this`, in an assignment at an offset.
@@ -49,29 +49,24 @@ fn said(
     assigned(alloc, sites, scope, Who::This, effect, at, x)
 }
 
-// A value said to a field of the agent of a loop, in an assignment at an offset.
+// A value said to a field of the agent of a loop.
 fn said_to_loop(
     alloc: Global,
     sites: &mut Vec<u32>,
     scope: &Scope,
-    at: u32,
-    found: Option<LoopField>,
+    variable: &Ident,
+    name: &Ident,
     x: &ExprTree,
 ) -> Result<Stmt, NoMemory>
-    ensures noted { OnOk result (sites.new.items
-        ≡ (said_to_loop at found x.now scope.now sites.old.items).1) }
-    ensures meant { IfOk result (λ s. s
-        ≡ (said_to_loop at found x.now scope.now sites.old.items).0) }
+    ensures noted { OnOk result (sites.new.items ≡ (said_to_loop variable.now.at
+        (of_loop scope.now variable.now.text name.now.text) x.now scope.now sites.old.items).1) }
+    ensures meant { IfOk result (λ s. s ≡ (said_to_loop variable.now.at
+        (of_loop scope.now variable.now.text name.now.text) x.now scope.now sites.old.items).0) }
 {
-    assigned(
-        alloc,
-        sites,
-        scope,
-        agent_of(found),
-        loop_number(found),
-        at,
-        x,
-    )
+    let found = scope.of_loop(variable.text.as_bytes(), name.text.as_bytes());
+    let who = agent_of(found);
+    let effect = loop_number(found);
+    assigned(alloc, sites, scope, who, effect, variable.at, x)
 }
 
 // The number of the class of a name.
@@ -99,7 +94,7 @@ fn constant<'a>(
     let number = scope.constants();
     let x = expression(alloc, sites, scope, x)?;
     scope.declare(name, ty)?;
-    Ok(Stmt::Const(number, x))
+    Ok(Stmt::Const(number, x.into_inner()))
 }
 
 #[cycle(statements)]
@@ -126,7 +121,7 @@ fn statement<'a>(
                 Some(other) => block(alloc, sites, scope, other)?,
                 None => List::new(alloc),
             };
-            Ok(Stmt::If(condition, statements, other))
+            Ok(Stmt::If(condition.into_inner(), statements, other))
         }
         StmtTree::Foreach(class, variable, _, statements, at) => {
             each(alloc, sites, scope, class, variable, statements, *at)
@@ -134,8 +129,7 @@ fn statement<'a>(
         StmtTree::Assign(name, x) => said(alloc, sites, scope, name.at, name, x.get()),
         StmtTree::AssignThis(name, x, at) => said(alloc, sites, scope, *at, name, x.get()),
         StmtTree::AssignLoop(variable, name, x) => {
-            let found = scope.of_loop(variable.text.as_bytes(), name.text.as_bytes());
-            said_to_loop(alloc, sites, scope, variable.at, found, x.get())
+            said_to_loop(alloc, sites, scope, variable, name, x.get())
         }
     }
 }

@@ -126,7 +126,7 @@ class_at at (Some k) = refl
 
 loops_at : (n : Scope) (class other : Ident) → zeroed (f.loops_over n class other) ≡ f.loops_over n (ident_at_0 class) (ident_at_0 other)
 loops_at n class other =
-    both (f.names_class class.at (class_number n class.text)) (f.names_again n class other) (f.names_class 0 (class_number n class.text)) (f.names_again n (ident_at_0 class) (ident_at_0 other))
+    both (f.names_class class.at (class_number n class.text)) (f.names_again class other (class_number n other.text)) (f.names_class 0 (class_number n class.text)) (f.names_again (ident_at_0 class) (ident_at_0 other) (class_number n other.text))
     (class_at class.at (class_number n class.text))
     (walk.either finding_at_0 (bytes_eq class.text other.text) (f.names_class other.at (class_number n other.text)) (f.fault (UnknownClass other.at))
     (f.names_class 0 (class_number n other.text)) (f.fault (UnknownClass 0)) (class_at other.at (class_number n other.text)) refl)

@@ -24,8 +24,8 @@ pub fn alike_scripts_have_the_same_names()
 {}
 
 /// Scripts that are the same apart from places have the same faults of the check passes apart from
-/// places, so nothing is found in one where nothing is found in the other; and the same program apart
-/// from offsets.
+/// places, so nothing is found in one where nothing is found in the other; and the same program
+/// apart from offsets.
 pub fn alike_scripts_mean_the_same()
     ensures faults { (r q : Resolved) → Alike r.tree q.tree
         → map check_fault_at_0 (check_faults r) ≡ map check_fault_at_0 (check_faults q) }

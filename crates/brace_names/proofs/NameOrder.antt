@@ -190,7 +190,7 @@ pub looped : (src : List ℕ) (scope : Scope) (class variable colon extent less 
     → Named (class ∷ variable ∷ colon ∷ extent ∷ less ∷ other ∷ []) (f.loops_over scope (ident src class) (ident src other))
 looped src scope class variable colon extent less other =
     append (class ∷ []) (variable ∷ colon ∷ extent ∷ less ∷ other ∷ [])
-    (f.names_class class.from (class_number scope (ident src class).text)) (f.names_again scope (ident src class) (ident src other))
+    (f.names_class class.from (class_number scope (ident src class).text)) (f.names_again (ident src class) (ident src other) (class_number scope (ident src other).text))
     (named_class class (class_number scope (ident src class).text))
     (over variable _ _ (over colon _ _ (over extent _ _ (over less _ _
     (named_same other (bytes_eq (ident src class).text (ident src other).text) (class_number scope (ident src other).text) _ (quiet_fault _ refl))))))

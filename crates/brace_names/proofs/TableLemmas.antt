@@ -7,7 +7,7 @@ use Rattle.std.proofs.lemmas.List.{map-append, at_drop_more, append-nil}
 use Rattle.indexmap.specs.IndexMap.{IndexMap, get, insert_entry}
 use Rattle.indexmap.proofs.CallerLemmas.{insert_entry-new}
 use Rattle.brace_num.proofs.Options.{not_some}
-use Rattle.brace_names.specs.Tables.{look, has, with_name, repeated, repeated_after}
+use Rattle.brace_names.specs.Tables.{look, has, with_name, repeated_after}
 use Rattle.std.specs.List.{list_any}
 use Rattle.std.proofs.lemmas.Bool.{cases_Bool}
 use Rattle.std.proofs.lemmas.List.Folds.{list_any-append}
@@ -104,10 +104,10 @@ texts-more names i d inside =
     ∙ (ap (λ (l : List Ident). map text l) (take-suc names i d inside) ∙ map-append text (take i names) (get_or names i d ∷ []))
 
 -- one name more is seen
-pub seen-more : (names : List Ident) (i : ℕ) (d : Ident) (again : List ℕ) (seen : List (List ℕ × Unit {0})) → i < length names → Knows seen (texts i names)
-    → again ++ repeated_after (texts i names) (drop i names) ≡ repeated names
-    → (again ++ (if has seen (text (get_or names i d)) then (get_or names i d).at ∷ [] else [])) ++ repeated_after (texts (i + 1) names) (drop (i + 1) names) ≡ repeated names
-seen-more names i d again seen inside knows before =
+pub seen-more : (names : List Ident) (i : ℕ) (d : Ident) (again all : List ℕ) (seen : List (List ℕ × Unit {0})) → i < length names → Knows seen (texts i names)
+    → again ++ repeated_after (texts i names) (drop i names) ≡ all
+    → (again ++ (if has seen (text (get_or names i d)) then (get_or names i d).at ∷ [] else [])) ++ repeated_after (texts (i + 1) names) (drop (i + 1) names) ≡ all
+seen-more names i d again all seen inside knows before =
     append_assoc again (if has seen (text (get_or names i d)) then (get_or names i d).at ∷ [] else []) (repeated_after (texts (i + 1) names) (drop (i + 1) names))
     ∙ (ap (λ (b : Bool). again ++ ((if b then (get_or names i d).at ∷ [] else []) ++ repeated_after (texts (i + 1) names) (drop (i + 1) names))) (knows (text (get_or names i d)))
     ∙ (ap (λ (e : List (List ℕ)). again ++ ((if list_any (bytes_eq (text (get_or names i d))) (texts i names) then (get_or names i d).at ∷ [] else []) ++ repeated_after e (drop (i + 1) names))) (texts-more names i d inside)
@@ -119,14 +119,14 @@ knows-next names i d seen inside knows =
     subst (Knows (with_name seen (text (get_or names i d)) tt)) (sym (texts-more names i d inside)) (knows-more seen (texts i names) (text (get_or names i d)) tt knows)
 
 -- a turn of the loop over the names
-pub turn : (names : List Ident) (i : ℕ) (x : Ident) (again after : List ℕ) (seen known : List (List ℕ × Unit {0})) → i < length names → x ≡ get_or names i x
+pub turn : (names : List Ident) (i : ℕ) (x : Ident) (again after all : List ℕ) (seen known : List (List ℕ × Unit {0})) → i < length names → x ≡ get_or names i x
     → after ≡ again ++ (if has seen x.text then x.at ∷ [] else []) → known ≡ with_name seen x.text tt
-    → again ++ repeated_after (texts i names) (drop i names) ≡ repeated names → Knows seen (texts i names)
-    → (after ++ repeated_after (texts (i + 1) names) (drop (i + 1) names) ≡ repeated names) × Knows known (texts (i + 1) names)
-turn names i x again after seen known inside is noted kept before knows = (
+    → again ++ repeated_after (texts i names) (drop i names) ≡ all → Knows seen (texts i names)
+    → (after ++ repeated_after (texts (i + 1) names) (drop (i + 1) names) ≡ all) × Knows known (texts (i + 1) names)
+turn names i x again after all seen known inside is noted kept before knows = (
   ap (λ (l : List ℕ). l ++ repeated_after (texts (i + 1) names) (drop (i + 1) names)) noted
-      ∙ subst (λ (y : Ident). (again ++ (if has seen y.text then y.at ∷ [] else [])) ++ repeated_after (texts (i + 1) names) (drop (i + 1) names) ≡ repeated names)
-      (sym is) (seen-more names i x again seen inside knows before),
+      ∙ subst (λ (y : Ident). (again ++ (if has seen y.text then y.at ∷ [] else [])) ++ repeated_after (texts (i + 1) names) (drop (i + 1) names) ≡ all)
+      (sym is) (seen-more names i x again all seen inside knows before),
   subst (λ (t : List (List ℕ × Unit {0})). Knows t (texts (i + 1) names)) (sym kept)
       (subst (λ (y : Ident). Knows (with_name seen y.text tt) (texts (i + 1) names)) (sym is) (knows-next names i x seen inside knows)),
 )

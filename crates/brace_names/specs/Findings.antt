@@ -103,13 +103,14 @@ abbrev pub names_class : ℕ → Option ℕ → List Finding
 names_class at None = fault (UnknownClass at)
 names_class at (Some n) = names_as at (target.Class n)
 
--- the second class of a loop is the first
-abbrev pub names_again : Scope → Ident → Ident → List Finding
-names_again scope class other =
-    if bytes_eq class.text other.text then names_class other.at (class_number scope other.text)
+-- the second class of a loop, of a number, is the first
+abbrev pub names_again : Ident → Ident → Option ℕ → List Finding
+names_again class other number =
+    if bytes_eq class.text other.text then names_class other.at number
     else fault (UnknownClass other.at)
 
 -- the two classes of a loop
 abbrev pub loops_over : Scope → Ident → Ident → List Finding
 loops_over scope class other =
-    names_class class.at (class_number scope class.text) ++ names_again scope class other
+    names_class class.at (class_number scope class.text)
+    ++ names_again class other (class_number scope other.text)

@@ -4,12 +4,12 @@ ghost use Rattle.brace_names.specs.Findings.{faults_at};
 ghost use Rattle.brace_names.specs.Found.{rule, gift, states_given, gifts_found, member, too_many, position, declarations, class_names, found};
 ghost use Rattle.brace_names.specs.Walk.{in_classes};
 ghost use Rattle.brace_names.specs.Scopes.{Home, home_of, outermost, is_query};
-ghost use Rattle.brace_names.specs.Classes.{fields, known};
+ghost use Rattle.brace_names.specs.Classes.{title, fields, known};
 ghost use Rattle.brace_names.specs.declared.fault.Which.TheVariants as which;
 ghost use Rattle.std.specs.Option.{option_map};
 ghost use Rattle.brace_names.specs.declared.fault.NameFault.TheVariants as fault;
 
-use crate::declared::{Classes, Field, field_table, fields, has_position, next, title};
+use crate::declared::{Classes, Declared, Field, field_table, fields, has_position, next, title};
 use crate::expr::expression;
 use crate::fault::{NameFault, Which};
 use crate::finding::Finding;
@@ -189,16 +189,24 @@ fn past_classes(out: &mut Vec<Finding>, names: &[Word]) -> Result<(), NoMemory>
     }
 }
 
-// The first field past the limit.
+// The first of these fields past the limit.
+fn past_limit(out: &mut Vec<Finding>, fields: &[Declared]) -> Result<(), NoMemory>
+    ensures { OnOk result (out.new.items ≡ out.old.items
+        ++ too_many which.Fields (option_map (λ one. one.0) (slice_get fields.now 64))) }
+{
+    match fields.get(64) {
+        Some(field) => fault(out, NameFault::TooMany(Which::Fields, field.name.at())),
+        None => Ok(()),
+    }
+}
+
+// The first field of a class past the limit.
 fn past_fields(alloc: Global, out: &mut Vec<Finding>, class: &ClassTree) -> Result<(), NoMemory>
     ensures { OnOk result (out.new.items ≡ out.old.items
         ++ too_many which.Fields (option_map (λ one. one.0) (slice_get (fields class.now) 64))) }
 {
     let fields = fields(alloc, class)?;
-    match fields.get(64) {
-        Some(field) => fault(out, NameFault::TooMany(Which::Fields, field.name.at())),
-        None => Ok(()),
-    }
+    past_limit(out, fields.as_slice())
 }
 
 // Whether the class has a position.
@@ -211,15 +219,30 @@ fn position(out: &mut Vec<Finding>, class: &ClassTree) -> Result<(), NoMemory>
     fault(out, NameFault::NoPosition(class.name.at))
 }
 
+fn titles<'a>(alloc: Global, members: &'a [MemberTree]) -> Result<Vec<Word<'a>>, NoMemory>
+    ensures { IfOk result (λ titles. titles.items ≡ map title members.now) }
+{
+    let mut titles = Vec::new(alloc);
+    for member in members {
+        titles.push(title(member))?;
+    }
+    Ok(titles)
+}
+
+// Each member that stands in its class already is a fault.
+fn members_again(alloc: Global, out: &mut Vec<Finding>, class: &ClassTree) -> Result<(), NoMemory>
+    ensures { OnOk result (out.new.items ≡ out.old.items
+        ++ faults_at fault.DuplicateName (repeated (map title class.now.members))) }
+{
+    let titles = titles(alloc, class.members.as_slice())?;
+    duplicates(alloc, out, titles.as_slice())
+}
+
 // What a class declares.
 fn declarations(alloc: Global, out: &mut Vec<Finding>, class: &ClassTree) -> Result<(), NoMemory>
     ensures { OnOk result (out.new.items ≡ out.old.items ++ declarations class.now) }
 {
-    let mut titles = Vec::new(alloc);
-    for member in class.members.as_slice() {
-        titles.push(title(member))?;
-    }
-    duplicates(alloc, out, titles.as_slice())?;
+    members_again(alloc, out, class)?;
     past_fields(alloc, out, class)?;
     position(out, class)
 }

@@ -1,14 +1,14 @@
-ghost use Rattle.std.specs.Prelude.{◌≡◌, ◌+◌, IfOk, OnOk, map, fold, slice_get, option_and_then};
+ghost use Rattle.std.specs.Prelude.{◌≡◌, ◌+◌, [], ◌∷◌, ◌++◌, IfOk, OnOk, map, fold, slice_get, option_and_then};
 ghost use Rattle.std.specs.List.{list_any};
 ghost use Rattle.brace_names.specs.Tables.{look, table, with_name};
-ghost use Rattle.brace_names.specs.Classes.{title, fields, numbered_from, known, is_coordinate, has_position, Known};
+ghost use Rattle.brace_names.specs.Classes.{title, fields_behind, fields, numbered_from, known, is_coordinate, has_position, Known};
 
 use crate::kinds::{comb_named, type_named};
 use crate::names::Names;
 use crate::word::Word;
 use brace_model::{Comb, Ty};
 use brace_num::NoMemory;
-use brace_syntax::{ClassTree, MemberTree, TyName};
+use brace_syntax::{ClassTree, Ident, MemberTree, TyName};
 use std::alloc::Global;
 use std::marker::Model;
 
@@ -74,30 +74,44 @@ pub fn next(number: u32) -> Result<u32, NoMemory>
     number.checked_add(1).ok_or(NoMemory)
 }
 
-/// The fields of a class.
-pub fn fields<'a>(alloc: Global, class: &'a ClassTree) -> Result<Vec<Declared<'a>>, NoMemory>
-    ensures { IfOk result (λ all. all.items ≡ fields class.now) }
+// Adds a field of this name.
+fn add_field<'a>(all: &mut Vec<Declared<'a>>, name: &'a Ident, field: Field) -> Result<(), NoMemory>
+    ensures { OnOk result (all.new.items ≡ all.old.items ++ (name.now, field) ∷ []) }
 {
-    let mut all = Vec::new(alloc);
+    let name = Word::of(name);
+    all.push(Declared { name, field })?;
+    Ok(())
+}
+
+// Adds the fields among the members of a class.
+fn add_fields<'a>(all: &mut Vec<Declared<'a>>, members: &'a [MemberTree]) -> Result<(), NoMemory>
+    ensures { OnOk result (all.new.items ≡ all.old.items ++ fields_behind 0 0 members.now) }
+{
     let mut states = 0;
     let mut effects = 0;
-    for member in class.members.as_slice() {
+    for member in members {
         match member {
             MemberTree::State(shared, ty, name, _, _) => {
-                let field = Field::State(states, type_named(ty), *shared);
-                let name = Word::of(name);
-                all.push(Declared { name, field })?;
+                add_field(all, name, Field::State(states, type_named(ty), *shared))?;
                 states = next(states)?;
             }
             MemberTree::Effect(shared, ty, name, comb, _) => {
                 let field = Field::Effect(effects, type_named(ty), *shared, comb_named(*comb));
-                let name = Word::of(name);
-                all.push(Declared { name, field })?;
+                add_field(all, name, field)?;
                 effects = next(effects)?;
             }
             _ => {}
         }
     }
+    Ok(())
+}
+
+/// The fields of a class.
+pub fn fields<'a>(alloc: Global, class: &'a ClassTree) -> Result<Vec<Declared<'a>>, NoMemory>
+    ensures { IfOk result (λ all. all.items ≡ fields class.now) }
+{
+    let mut all = Vec::new(alloc);
+    add_fields(&mut all, class.members.as_slice())?;
     Ok(all)
 }
 

@@ -195,6 +195,23 @@ fn class(out: &mut Vec<Finding>, at: u32, number: Option<u32>) -> Result<(), NoM
     }
 }
 
+// The second class of a loop, of a number, is the first.
+fn again(
+    out: &mut Vec<Finding>,
+    first: &Ident,
+    second: &Ident,
+    number: Option<u32>,
+) -> Result<(), NoMemory>
+    ensures { OnOk result (out.new.items ≡ out.old.items
+        ++ names_again first.now second.now number) }
+{
+    if first.text.as_bytes() == second.text.as_bytes() {
+        class(out, second.at, number)
+    } else {
+        fault(out, NameFault::UnknownClass(second.at))
+    }
+}
+
 /// The two classes of a loop.
 pub fn loop_over(
     out: &mut Vec<Finding>,
@@ -205,11 +222,11 @@ pub fn loop_over(
     ensures { OnOk result (out.new.items ≡ out.old.items
         ++ loops_over scope.now first.now second.now) }
 {
-    let text = second.text.as_bytes();
     class(out, first.at, scope.class_number(first.text.as_bytes()))?;
-    if first.text.as_bytes() == text {
-        class(out, second.at, scope.class_number(text))
-    } else {
-        fault(out, NameFault::UnknownClass(second.at))
-    }
+    again(
+        out,
+        first,
+        second,
+        scope.class_number(second.text.as_bytes()),
+    )
 }

@@ -11,15 +11,16 @@ use std::alloc::Global;
 use std::marker::Model;
 
 /// A constant by its number in its class, with its type, or a loop variable by the number of loops
-/// that its loop stands in, with the number of the class looped over where there is one of the name.
+/// that its loop stands in, with the number of the class looped over where there is one of the
+/// name.
 #[derive(Clone, Copy, Drop)]
 pub enum Local {
     Constant(u32, Ty),
     Loop(u32, Option<u32>),
 }
 
-/// What `n` or `this.n` stands for in an expression: a constant by its number in its class, with its
-/// type, or a field of the class.
+/// What `n` or `this.n` stands for in an expression: a constant by its number in its class, with
+/// its type, or a field of the class.
 #[derive(Clone, Copy, Drop)]
 pub enum Named {
     Constant(u32, Ty),
@@ -35,7 +36,8 @@ pub struct LoopField {
     pub field: Field,
 }
 
-/// A class as its members see it: what the script declares, the number of the class, and its fields.
+/// A class as its members see it: what the script declares, the number of the class, and its
+/// fields.
 #[derive(Drop)]
 pub struct Home<'s, 'a> {
     pub known: &'s Classes<'a>,

@@ -2,7 +2,7 @@ ghost use Rattle.std.specs.Prelude.{◌≡◌, ◌++◌, map, OnOk};
 ghost use Rattle.brace_names.specs.Scopes.{past, declaring, inside};
 ghost use Rattle.brace_names.specs.Walk.{behind, block, constants_in};
 ghost use Rattle.brace_names.specs.Kinds.{type_named};
-ghost use Rattle.brace_names.specs.Findings.{typed, declares, assigns, loops_over};
+ghost use Rattle.brace_names.specs.Findings.{typed, declares, assigns, assigns_of_loop, loops_over};
 ghost use Rattle.brace_names.specs.Found.{expression, part};
 
 use crate::expr::expression;
@@ -47,6 +47,38 @@ fn assigned(
     expression(out, scope, x)
 }
 
+// An assignment to a field of the agent of a loop.
+fn assigned_of_loop(
+    out: &mut Vec<Finding>,
+    scope: &Scope,
+    variable: &Ident,
+    name: &Ident,
+    x: &ExprTree,
+) -> Result<(), NoMemory>
+    ensures { OnOk result (out.new.items ≡ out.old.items
+        ++ assigns_of_loop scope.now variable.now name.now ++ expression x.now scope.now) }
+{
+    assign_of_loop(out, scope, variable, name)?;
+    expression(out, scope, x)
+}
+
+// The head of a loop, behind which its block begins.
+fn head<'a>(
+    out: &mut Vec<Finding>,
+    scope: &mut Scope<'_, '_, 'a>,
+    class: &Ident,
+    variable: &'a Ident,
+    other: &Ident,
+) -> Result<(), NoMemory>
+    ensures found { OnOk result (out.new.items ≡ out.old.items
+        ++ loops_over scope.old class.now other.now ++ declares scope.old variable.now) }
+    ensures inside { OnOk result (scope.new ≡ inside class.now variable.now scope.old) }
+{
+    loop_over(out, scope, class, other)?;
+    declare(out, scope, variable)?;
+    scope.enter(class, variable)
+}
+
 #[cycle(statements)]
 fn statement<'a>(
     out: &mut Vec<Finding>,
@@ -72,8 +104,7 @@ fn statement<'a>(
         StmtTree::Assign(name, x) => assigned(out, scope, name.at, name, x.get()),
         StmtTree::AssignThis(name, x, at) => assigned(out, scope, *at, name, x.get()),
         StmtTree::AssignLoop(variable, name, x) => {
-            assign_of_loop(out, scope, variable, name)?;
-            expression(out, scope, x.get())
+            assigned_of_loop(out, scope, variable, name, x.get())
         }
     }
 }
@@ -96,9 +127,7 @@ fn each<'a>(
 {
     let loops = scope.loops();
     let names = scope.len();
-    loop_over(out, scope, class, other)?;
-    declare(out, scope, variable)?;
-    scope.enter(class, variable)?;
+    head(out, scope, class, variable, other)?;
     block(out, scope, statements)?;
     scope.leave(loops, names);
     Ok(())

@@ -68,14 +68,22 @@ fn see<'a>(seen: &mut Names<'a, ()>, again: &mut Vec<u32>, word: &Word<'a>) -> R
     Ok(())
 }
 
-/// The offsets of the words that an earlier one of the list equals.
-pub fn repeats<'a>(alloc: Global, words: &[Word<'a>]) -> Result<Vec<u32>, NoMemory>
-    ensures { IfOk result (λ again. again.items ≡ repeated words.now) }
+// Notes the offsets of the words that an earlier one of the list equals.
+fn note<'a>(alloc: Global, again: &mut Vec<u32>, words: &[Word<'a>]) -> Result<(), NoMemory>
+    ensures { OnOk result (again.new.items ≡ again.old.items ++ repeated words.now) }
 {
     let mut seen = Names::new(alloc);
-    let mut again = Vec::new(alloc);
     for word in words {
-        see(&mut seen, &mut again, word)?;
+        see(&mut seen, again, word)?;
     }
+    Ok(())
+}
+
+/// The offsets of the words that an earlier one of the list equals.
+pub fn repeats(alloc: Global, words: &[Word]) -> Result<Vec<u32>, NoMemory>
+    ensures { IfOk result (λ again. again.items ≡ repeated words.now) }
+{
+    let mut again = Vec::new(alloc);
+    note(alloc, &mut again, words)?;
     Ok(again)
 }
