@@ -40,7 +40,7 @@ impl Arranged {
     {
         let side = greatest_visible(program).max(UNIT);
         let sorted = Sorted::of(alloc, program, columns, side)?;
-        let rows = Moved::of(alloc, columns, &sorted.order)?;
+        let rows = Moved::of(alloc, columns, &sorted.order, 0)?;
         Ok(Arranged {
             order: sorted.order,
             rows,

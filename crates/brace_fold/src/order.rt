@@ -161,21 +161,38 @@ pub fn item_within<T: Copy>(column: &[T], row: u32) -> T
     column[row as usize]
 }
 
-/// So many rows and some more, as those of others come behind a part's own.
+/// How many rows to spare stand behind a part's own, as those of others come there.
+pub fn spare_behind(rows: usize) -> usize {
+    rows / 4
+}
+
+/// So many rows and some to spare.
+fn with_spare(rows: usize, spare: usize) -> usize
+    ensures { rows ≤ result }
+{
+    rows.saturating_add(spare)
+}
+
+/// So many rows of a part's own, with those to spare.
 pub fn roomy(rows: usize) -> usize
     ensures { rows ≤ result }
 {
-    rows.saturating_add(rows / 4)
+    with_spare(rows, spare_behind(rows))
 }
 
 /// What a column has in some rows.
-fn picked_each<T: Copy>(alloc: Global, column: &[T], rows: &[u32]) -> Result<Vec<T>, Redo>
+fn picked_each<T: Copy>(
+    alloc: Global,
+    column: &[T],
+    rows: &[u32],
+    spare: usize,
+) -> Result<Vec<T>, Redo>
     ensures { IfOk result (λ out. IsPicked rows.now column.now out.items) }
 {
     if !are_within(rows, column.len()) {
         return Err(Redo);
     }
-    let mut out = Vec::with_capacity(alloc, roomy(rows.len()))?;
+    let mut out = Vec::with_capacity(alloc, with_spare(rows.len(), spare))?;
     for row in rows {
         out.push_reserved(item_within(column, *row));
     }
@@ -200,10 +217,11 @@ fn picked_all<T: Copy>(
     column: &[T],
     slices: &[Slice],
     count: usize,
+    spare: usize,
 ) -> Result<Vec<T>, Redo>
     ensures { IfOk result (λ out. IsPicked (rows_along slices.now) column.now out.items) }
 {
-    let mut out = Vec::with_capacity(alloc, roomy(count))?;
+    let mut out = Vec::with_capacity(alloc, with_spare(count, spare))?;
     for slice in slices {
         push_between(column, slice, &mut out)?;
     }
@@ -211,23 +229,28 @@ fn picked_all<T: Copy>(
 }
 
 /// What a column has in some rows.
-fn picked<T: Copy>(alloc: Global, column: &[T], picks: &Picks) -> Result<Vec<T>, Redo>
+fn picked<T: Copy>(alloc: Global, column: &[T], picks: &Picks, spare: usize) -> Result<Vec<T>, Redo>
     ensures { IfOk result (λ out. IsPicked (rows_picked picks.now) column.now out.items) }
 {
     match picks {
-        Picks::Each(rows) => picked_each(alloc, column, rows),
-        Picks::Slices(all, count) => picked_all(alloc, column, all, *count),
+        Picks::Each(rows) => picked_each(alloc, column, rows, spare),
+        Picks::Slices(all, count) => picked_all(alloc, column, all, *count, spare),
     }
 }
 
 /// The words of each column in some rows.
-fn picked_columns(alloc: Global, columns: &[&[i64]], picks: &Picks) -> Result<Vec<List<i64>>, Redo>
+fn picked_columns(
+    alloc: Global,
+    columns: &[&[i64]],
+    picks: &Picks,
+    spare: usize,
+) -> Result<Vec<List<i64>>, Redo>
     ensures { IfOk result (λ outs. map (λ c. map (slice_get c.now) (rows_picked picks.now))
         columns.now ≡ map (λ out. map Some out) outs.items) }
 {
     let mut outs = Vec::with_capacity(alloc, columns.len())?;
     for column in columns {
-        let out = picked(alloc, column, picks)?;
+        let out = picked(alloc, column, picks, spare)?;
         outs.push(List::from_vec(out))?;
     }
     Ok(outs)
@@ -265,8 +288,8 @@ impl Moved {
         })
     }
 
-    /// Columns in the order of rows.
-    pub fn of(alloc: Global, columns: &Columns, order: &[u32]) -> Result<Moved, Redo>
+    /// Columns in the order of rows, with room for some rows to spare.
+    pub fn of(alloc: Global, columns: &Columns, order: &[u32], spare: usize) -> Result<Moved, Redo>
         ensures rows { IfOk result (λ moved. (agents : List Agent)
             → AreColumns agents columns.now → AreMoved (by_row agents order.now) moved) }
         ensures wide { IfOk result (λ moved.
@@ -276,9 +299,9 @@ impl Moved {
     {
         let picks = picks_of(alloc, order)?;
         Ok(Moved {
-            classes: picked(alloc, columns.classes, &picks)?,
-            ids: picked(alloc, columns.ids, &picks)?,
-            states: picked_columns(alloc, columns.states, &picks)?,
+            classes: picked(alloc, columns.classes, &picks, spare)?,
+            ids: picked(alloc, columns.ids, &picks, spare)?,
+            states: picked_columns(alloc, columns.states, &picks, spare)?,
         })
     }
 

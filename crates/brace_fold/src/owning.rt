@@ -8,7 +8,7 @@ ghost use Rattle.brace_fold.specs.Rows.{AreMoved};
 
 use crate::columns::{expect_wide, views};
 use crate::lists::agents_of;
-use crate::order::Moved;
+use crate::order::{Moved, spare_behind};
 use crate::surviving::push_agent;
 use brace_code::Redo;
 use brace_model::{Agent, Herd, Program};
@@ -58,7 +58,12 @@ impl Moved {
             → AreMoved (by_row agents rows.now) moved) }
     {
         let states = views(alloc, &self.states)?;
-        let moved = Moved::of(alloc, &self.as_columns(&states), rows)?;
+        let moved = Moved::of(
+            alloc,
+            &self.as_columns(&states),
+            rows,
+            spare_behind(rows.len()),
+        )?;
         Ok(moved)
     }
 }

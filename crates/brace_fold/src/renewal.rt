@@ -92,7 +92,7 @@ fn renew_some(
     let Some(ruled) = ground.plans.ruled(number) else {
         return Err(Redo);
     };
-    let picked = Moved::of(alloc, columns, rows)?;
+    let picked = Moved::of(alloc, columns, rows, 0)?;
     let states = views(alloc, &picked.states)?;
     let these = picked.as_columns(&states);
     expect_wide(program, &these)?;

@@ -219,13 +219,16 @@ pub fn renew(
     requires ticks { tick ≤ 2 ^ 32 }
     ensures left { IfOk result (λ _. (totals : Agent → List ℤ)
         → map (λ r. r.now) rows.now ≡ map totals agents.old.items → agents.new.items
-        ≡ living (filter_map result_ok (map (becomes_by plans.now seed tick totals) agents.old.items))) }
+        ≡ living (filter_map result_ok (map (becomes_by plans.now seed tick totals)
+        agents.old.items))) }
     ensures born { IfOk result (λ born. (totals : Agent → List ℤ)
         → map (λ r. r.now) rows.now ≡ map totals agents.old.items → born.items
-        ≡ children (filter_map result_ok (map (becomes_by plans.now seed tick totals) agents.old.items))) }
+        ≡ children (filter_map result_ok (map (becomes_by plans.now seed tick totals)
+        agents.old.items))) }
     ensures quiet { IfOk result (λ _. (totals : Agent → List ℤ)
         → map (λ r. r.now) rows.now ≡ map totals agents.old.items
-        → filter_map result_err (map (becomes_by plans.now seed tick totals) agents.old.items) ≡ []) }
+        → filter_map result_err (map (becomes_by plans.now seed tick totals) agents.old.items)
+        ≡ []) }
     ensures kept { IfErr result (λ _. agents.new.items ≡ agents.old.items) }
 {
     if rows.len() != agents.len() || !pays(agents.as_slice()) {

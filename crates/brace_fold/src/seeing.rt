@@ -80,8 +80,8 @@ fn put_kept(out: &mut [u32], at: usize, row: u32, keeps: bool) -> usize
     at + usize::from(keeps)
 }
 
-/// Writes the places of the agents at spots that are looked for from a count of places on, and gives
-/// the count of places behind them.
+/// Writes the places of the agents at spots that are looked for from a count of places on, and
+/// gives the count of places behind them.
 #[tactic(auto, using(crate::proofs::Looks::found_more))]
 fn scan_into(spots: &[Spot], eye: Eye, out: &mut [u32], from: usize) -> usize
     requires { from + length spots.now ≤ length out.old }
