@@ -165,17 +165,11 @@ fn add_near(near: &mut Vec<u32>, row: u32, wanted: bool)
     }
 }
 
-/// The rows of the agents that stand within a range of an area.
-fn rows_near(
-    alloc: Global,
-    program: &Program,
-    rows: &Moved,
-    area: &Area,
-    range: i64,
-) -> Result<Vec<u32>, Redo>
-    requires { pos 0 ≤ℤ range }
-    ensures { IfOk result (λ near. (agents : List Agent) → AreMoved agents rows.now
-        → AreNear program.now area.now range agents agents near.items) }
+/// The rows of the agents that stand in a widened area: within the range of the area that it was.
+fn rows_near(alloc: Global, program: &Program, rows: &Moved, wide: &Area) -> Result<Vec<u32>, Redo>
+    ensures { IfOk result (λ near. (area : Area) (range : ℤ) (agents : List Agent)
+        → IsWidened area range wide.now → AreMoved agents rows.now
+        → AreNear program.now area range agents agents near.items) }
 {
     let classes = rows.classes.as_slice();
     let mut near = Vec::with_capacity(alloc, classes.len())?;
@@ -186,11 +180,10 @@ fn rows_near(
         return Err(Redo);
     };
     let mut axes = axes_of(program, rows, first)?;
-    let wide = widened(area, range);
     for row in 0..count {
         let known = led(program, rows, axes, classes[row as usize])?;
         axes = known;
-        let wanted = is_near_at(&axes, &wide, row as usize);
+        let wanted = is_near_at(&axes, wide, row as usize);
         add_near(&mut near, row, wanted);
     }
     Ok(near)
@@ -228,7 +221,7 @@ pub fn agents_near(
     ensures fit { IfOk result (λ _. (agents : List Agent) → AreStored program.now agents rows.now
         → All (StandsFit program.now) agents) }
 {
-    let Ok(places) = rows_near(alloc, program, rows, area, range) else {
+    let Ok(places) = rows_near(alloc, program, rows, &widened(area, range)) else {
         return Err(NoMemory);
     };
     let Ok(sorted) = rows_by_id(rows.ids.as_slice(), places) else {
@@ -330,7 +323,7 @@ pub fn settled(
         → IsTrue (list_all (is_lawful_agent program.now) these)
         → AreStored program.now these all) }
 {
-    let stay = rows_near(alloc, program, &rows, &cuts.area(part), 0)?;
+    let stay = rows_near(alloc, program, &rows, &widened(&cuts.area(part), 0))?;
     let these = staying(alloc, rows, &stay)?;
     let all = with_more(alloc, program, these, more)?;
     Ok(all)

@@ -13,6 +13,10 @@ use brace_model::{Class, Herd, Program, Ty};
 use brace_num::{List, NoMemory};
 use std::alloc::Global;
 
+/// How many agents have their words in one block. Blocks of this length find room again where
+/// columns and sums went.
+const MANY: usize = 16_384;
+
 /// The types of the states of a class.
 fn types_of(alloc: Global, class: &Class) -> Result<List<Ty>, NoMemory>
     ensures { IfOk result (λ types. types ≡ map (λ s. s.ty) class.now.states) }
@@ -86,8 +90,8 @@ fn push_row(
     herd.push(class, id, types, words)
 }
 
-/// The agents of some rows, packed.
-fn rows_packed(
+/// The agents of some rows, packed, with their words in one block for each class.
+fn few_packed(
     alloc: Global,
     types: &[List<Ty>],
     own: &Moved,
@@ -101,6 +105,26 @@ fn rows_packed(
     let mut words = Vec::new(alloc);
     for row in rows {
         push_row(&mut herd, types, own, *row, &mut words)?;
+    }
+    Ok(herd)
+}
+
+/// The agents of some rows, packed.
+fn rows_packed(
+    alloc: Global,
+    types: &[List<Ty>],
+    own: &Moved,
+    rows: &[u32],
+) -> Result<Herd, NoMemory>
+    ensures { IfOk result (λ herd. (program : Program) → types.now ≡ types_in program
+        → herd ≡ map (agent_at program own.now) rows.now) }
+{
+    let mut herd = Herd::with_room(alloc, rows.len(), 0)?;
+    let mut left = rows;
+    while !left.is_empty() {
+        let (few, rest) = left.split_at(left.len().min(MANY));
+        herd.append(few_packed(alloc, types, own, few)?)?;
+        left = rest;
     }
     Ok(herd)
 }

@@ -53,8 +53,8 @@ impl Queries {
 
     /// What the queries of a part say to the agents that it holds, and their least fault: those of
     /// its own agents, which stand at some places; with inversion those of the forward program of
-    /// its own agents, and of the inverse program of all that it holds. They are asked in lanes, and
-    /// where that can't be, agent by agent.
+    /// its own agents, and of the inverse program of all that it holds. They are asked in lanes,
+    /// and where that can't be, agent by agent.
     pub(crate) fn heard(
         &self,
         alloc: Global,

@@ -139,7 +139,8 @@ fn updated_in_turn(
     requires ticks { tick ≤ 2 ^ 32 }
     ensures left { IfOk result (λ left. (said : List Saying)
         → map (λ r. r.now) rows.now ≡ map (row_of setting.now.job.program said) own.now
-        → left.0.items ≡ living (filter_map result_ok (map (becomes setting.now tick said) own.now))) }
+        → left.0.items
+        ≡ living (filter_map result_ok (map (becomes setting.now tick said) own.now))) }
     ensures born { IfOk result (λ left. (said : List Saying)
         → map (λ r. r.now) rows.now ≡ map (row_of setting.now.job.program said) own.now
         → left.1.items

@@ -8,7 +8,7 @@ use Rattle.brace_model.specs.declared.world.Agent.{Agent}
 use Rattle.brace_fold.specs.Asked.{by_row, no_agent}
 use Rattle.brace_fold.proofs.Ownings.{picked-row}
 use Rattle.brace_invert.specs.Held.{is_near}
-use Rattle.brace_herd.specs.inner.Near.{AreNear, StandsFit}
+use Rattle.brace_herd.specs.inner.Near.{IsWidened, StandsFit}
 use Rattle.brace_herd.specs.inner.Packing.{agent_at}
 use Rattle.brace_fold.proofs.MoveLemmas.{picked-within}
 use Rattle.brace_herd.proofs.AskedLemmas.{filter_moved}
@@ -23,9 +23,9 @@ returns-clause-near c agents stored =
     let those = stored.those in
     let id = λ (a : Agent). a.id in
     let test = is_near program c.args.area.now c.args.range in
-    let near =
-    subst (λ r. AreNear program c.args.area.now r those those c.in-Ok.places.items)
-    (to_z-of_z w64 c.args.range c.ranges.range) (c.in-Ok.ensures those stored.listed.moved) in
+    let wide = subst (λ r. IsWidened c.args.area.now r c.widened.result)
+    (to_z-of_z w64 c.args.range c.ranges.range) c.widened.ensures in
+    let near = c.in-Ok.ensures c.args.area.now c.args.range those wide stored.listed.moved in
     let places = c.in-Ok.places.items in
     let rows = c.in-Ok-rows_by_id.sorted.items in
     let sorted = c.in-Ok-rows_by_id.ensures in
@@ -48,4 +48,4 @@ pub returns-clause-fit : goal.returns-clause-fit
 returns-clause-fit c agents stored =
     All-permutation (StandsFit c.args.program.now) stored.those agents
     (IsPermutation-sym agents stored.those stored.same)
-    (c.in-Ok.ensures stored.those stored.listed.moved).fit
+    (c.in-Ok.ensures c.args.area.now _ stored.those c.widened.ensures stored.listed.moved).fit

@@ -1,6 +1,5 @@
-use Rattle.std.proofs.Common.{◌≡◌, ◌∙◌, ◌+◌, ◌<◌, ◌≤◌, [], sym, ap, subst, ℕ, List, Some, get_or, length, slice_get, take, arith, rules, to_z, of_z, w64}
+use Rattle.std.proofs.Common.{◌≡◌, ◌∙◌, ◌+◌, ◌<◌, ◌≤◌, [], sym, ap, subst, ℕ, List, Some, get_or, length, slice_get, take, arith, rules}
 use Rattle.std.specs.Prelude.{option_map}
-use Rattle.std.proofs.lemmas.Int.{to_z-of_z}
 use Rattle.std.proofs.lemmas.List.{length-map, take_all}
 use Rattle.std.proofs.lemmas.Option.{get_or_from_slice_get, same_Some, slice_get-get_or, slice_get-map}
 use Rattle.brace_model.specs.declared.world.Agent.{Agent}
@@ -9,7 +8,7 @@ use Rattle.brace_herd.proofs.NearLemmas.{near_first, near_more, none_near}
 use Rattle.brace_herd.proofs.near.rows_near.Goals as goal
 
 pub returns-in_default : goal.returns-in_default
-returns-in_default c agents moved =
+returns-in_default c area range agents wide moved =
     let rows = c.args.rows.now in
     let none : length rows.classes.items ≤ 0 =
     subst (λ (l : List ℕ). length l ≤ 0) c.as_slice-classes.ensures.value
@@ -20,20 +19,18 @@ returns-in_default c agents moved =
       ap length moved.classes,
       length-map agents (λ (a : Agent). a.class),
     ) in
-    subst (AreNear c.args.program.now c.args.area.now c.args.range agents agents)
+    subst (AreNear c.args.program.now area range agents agents)
     (sym c.in_ok-near.ensures.items)
-    (none_near c.args.program.now c.args.area.now c.args.range agents long)
+    (none_near c.args.program.now area range agents long)
 
 pub loop-row-init : goal.loop-row-init
 loop-row-init c =
     let program = c.args.program.now in
-    let area = c.args.area.now in
-    let range = to_z w64 (of_z w64 c.args.range) in
     record {
       axes = c.in_ok-axes.ensures.axes;
       few = search rules;
       room = search rules;
-      near = λ agents moved.
+      near = λ area range agents wide moved.
           subst (AreNear program area range agents []) (sym c.in_ok-near.ensures.items)
           (near_first program area range agents);
     }
@@ -43,14 +40,12 @@ loop-row-preserved c =
     let k = c.loop-row.row in
     let rows = c.args.rows.now in
     let program = c.args.program.now in
-    let area = c.args.area.now in
-    let range = to_z w64 (of_z w64 c.args.range) in
     let so = c.loop-row.invariant in
     record {
       axes = c.in_ok-known.ensures.axes;
       few = omega (arith, so.few, c.add_near.ensures.len);
       room = omega (arith, so.room, c.add_near.ensures.room);
-      near = λ agents moved.
+      near = λ area range agents wide moved.
           let many : length rows.classes.items ≡ length agents =
           ap length moved.classes ∙ length-map agents (λ (a : Agent). a.class) in
           let under : k < length rows.classes.items = search rules in
@@ -68,24 +63,21 @@ loop-row-preserved c =
           let led : c.in_ok-known.known.class ≡ number = search rules in
           let same = sym class ∙ sym led in
           let near = c.is_near_at-wanted.ensures.near program rows agents a area range
-          c.in_ok-known.ensures.axes moved there same c.widened-wide.ensures in
+          c.in_ok-known.ensures.axes moved there same wide in
           let fit = c.is_near_at-wanted.ensures.fit program rows agents a
           c.in_ok-known.ensures.axes moved there same in
           let wanted = c.is_near_at-wanted.result in
           subst (AreNear program area range agents (take (k + 1) agents))
           (sym {A = List ℕ} c.add_near.ensures.items)
           (near_more program area range agents k a wanted c.loop-row.near.items low there its near
-          fit (so.near agents moved));
+          fit (so.near area range agents wide moved));
     }
 
 pub returns : goal.returns
-returns c agents moved =
+returns c area range agents wide moved =
     let many : length c.args.rows.now.classes.items ≡ length agents =
     ap length moved.classes ∙ length-map agents (λ (a : Agent). a.class) in
     let long : length c.args.rows.now.classes.items ≤ c.loop-row.row = search rules in
     let all = take_all c.loop-row.row agents (omega (arith, long, many)) in
-    subst (λ r. AreNear c.args.program.now c.args.area.now r agents agents c.loop-row.near.items)
-    (to_z-of_z w64 c.args.range c.ranges.range)
-    (subst (λ l. AreNear c.args.program.now c.args.area.now (to_z w64 (of_z w64 c.args.range))
-    agents l c.loop-row.near.items) all
-    (c.loop-row.invariant.near agents moved))
+    subst (λ l. AreNear c.args.program.now area range agents l c.loop-row.near.items) all
+    (c.loop-row.invariant.near area range agents wide moved)

@@ -18,7 +18,8 @@ returns c agents these stored rises moved lawful =
     let those = stored.those in
     let near =
     subst (λ (area : Area). AreNear program area (pos 0) those those c.in_ok-stay.stay.items)
-    c.area.ensures (c.in_ok-stay.ensures those stored.listed.moved) in
+    c.area.ensures
+    (c.in_ok-stay.ensures _ (pos 0) those c.widened.ensures stored.listed.moved) in
     let mine = owned_near cuts c.requires.cuts part c.requires.part program those near.fit in
     let stay = subst (ArePlaces those (owned program cuts part those))
     (sym {A = List ℕ} c.deref.ensures.value)
