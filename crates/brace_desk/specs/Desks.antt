@@ -23,8 +23,8 @@ use Rattle.brace_desk.specs.Calls.{Call, behind, IsCut}
 
 -- a desk: where it stands in the schedule of its setting, what its publisher was when it was made
 -- and what it is, why it goes no further and why its publisher refused, in which step it stands or
--- came to that, what parts brought there, whether it has put its Halt to all since, and in which step
--- it was seen last not to have
+-- came to that, what parts brought there, whether it has put its Halt to all since, and in which
+-- step it was seen last not to have
 pub record OnDesk (P : Type 0) : Type 0 where
   pub course : OnCourse
   pub opening : P

@@ -9,9 +9,51 @@ ghost use Rattle.brace_desk.specs.Lots.{brought};
 ghost use Rattle.brace_desk.specs.inner.Joins.{added_to, IsSortedWorld};
 
 use crate::desk::Lot;
+use brace_model::Herd;
 use brace_num::NoMemory;
 use brace_pieces::Shown;
 use std::alloc::Global;
+
+/// How many agents lots bring in the world that has a place among theirs.
+fn count_in(lots: &[Lot], place: usize) -> usize {
+    let mut count: usize = 0;
+    for lot in lots {
+        if let Some(world) = lot.worlds.as_slice().get(place) {
+            count = count.saturating_add(world.agents.len());
+        }
+    }
+    count
+}
+
+/// The same agents, with room for so many more.
+fn widened(alloc: Global, agents: Herd, more: usize) -> Result<Herd, NoMemory>
+    ensures { IfOk result (λ all. all ≡ agents) }
+{
+    if more == 0 {
+        return Ok(agents);
+    }
+    let mut all = Herd::with_room(alloc, agents.len().saturating_add(more), 0)?;
+    all.append(agents)?;
+    Ok(all)
+}
+
+/// The same worlds, each with room for the agents that lots bring in the world of its place: room
+/// that grows with each lot takes twice as much.
+fn all_widened(alloc: Global, worlds: Vec<Shown>, lots: &[Lot]) -> Result<Vec<Shown>, NoMemory>
+    ensures { IfOk result (λ all. all.items ≡ worlds.items) }
+{
+    let mut all = Vec::new(alloc);
+    for world in worlds {
+        let more = count_in(lots, all.len());
+        let agents = widened(alloc, world.agents, more)?;
+        all.push(Shown {
+            tick: world.tick,
+            agents,
+            next: world.next,
+        })?;
+    }
+    Ok(all)
+}
 
 /// Worlds of some ticks, each with the agents of others of the same ticks behind its own.
 fn added(alloc: Global, worlds: Vec<Shown>, more: Vec<Shown>) -> Result<Vec<Shown>, NoMemory>
@@ -58,7 +100,7 @@ pub fn joined(alloc: Global, lots: &mut Vec<Lot>) -> Result<Vec<Shown>, NoMemory
     let Some(last) = lots.pop() else {
         return Ok(Vec::new(alloc));
     };
-    let mut worlds = last.worlds.into_vec();
+    let mut worlds = all_widened(alloc, last.worlds.into_vec(), lots)?;
     while let Some(lot) = lots.pop() {
         worlds = added(alloc, worlds, lot.worlds.into_vec())?;
     }

@@ -9,7 +9,7 @@ use Rattle.brace_desk.proofs.join.joined.Goals as goal
 pub loop-lot-init : goal.loop-lot-init
 loop-lot-init c = record {
   left = λ s held ticks are.
-      subst (IsLeft s held ticks c.pop.new.self.items) (sym c.into_vec-worlds.ensures)
+      subst (IsLeft s held ticks c.pop.new.self.items) (sym (c.in_ok-worlds.ensures ∙ c.into_vec.ensures))
       (left_first s held ticks c.args.lots.now.items c.pop.new.self.items c.in-Some.last are c.in-Some.ensures.items);
   places = c.pop.ensures.capacity;
 }
@@ -17,9 +17,9 @@ loop-lot-init c = record {
 pub loop-lot-preserved : goal.loop-lot-preserved
 loop-lot-preserved c = record {
   left = λ s held ticks are.
-      left_next s held ticks c.loop-lot.lots.items c.pop-in-loop-lot.new.self.items c.in-Some-pop.lot c.loop-lot.worlds.items c.in_ok-worlds.worlds.items
+      left_next s held ticks c.loop-lot.lots.items c.pop-in-loop-lot.new.self.items c.in-Some-pop.lot c.loop-lot.worlds.items c.in_ok-worlds-2.worlds.items
       (c.loop-lot.invariant.left s held ticks are) c.in-Some-pop.ensures.items
-      (c.in_ok-worlds.ensures ∙ ap (added_to c.loop-lot.worlds.items) c.into_vec.ensures);
+      (c.in_ok-worlds-2.ensures ∙ ap (added_to c.loop-lot.worlds.items) c.into_vec-in-Some-pop.ensures);
   places = c.pop-in-loop-lot.ensures.capacity ∙ c.loop-lot.invariant.places;
 }
 
