@@ -42,7 +42,7 @@ use Rattle.brace_command.specs.Outcome.{Outcome, Refusal, TrialProgram, ProgramO
 use Rattle.brace_command.specs.Savings.{Saving, with_saved}
 use Rattle.brace_command.specs.Status.{has_run}
 use Rattle.brace_command.specs.Settled.{is_work, is_plain_work, stopped_status, stopped_message, status_in, message_in, IsOf, IsRefusedAs, IsScriptRefused, IsRecordRefused, refuses_file, is_stop, GivesNothing, IsLoaded, IsUnloaded, IsStopped, IsCarriedOut, IsWritten, IsRunOf, IsServed, outcome_of}
-use Rattle.brace_command.specs.Prepared.{IsStoppedBefore, IsReady, CanRun, IsPrepared}
+use Rattle.brace_command.specs.Prepared.{IsStoppedBefore, IsReady, IsPrepared}
 use Rattle.brace_command.specs.Words.{said_run, IsReadAs, IsUnasked, IsRunInRange}
 use Rattle.brace_command.proofs.StatusLemmas.{stop_runs, stop_usage, stop_writes, work_refusal, work_saves, work_usage, plain_works, plain_stops, plain_counts, stop_reads, plain_reads}
 
@@ -323,27 +323,6 @@ plain_serves {O = O} of_shelf of_sink asked s m o n p w r task kept is prepared 
     let (ready, begins, same, bare) = subst (IsPrepared of_shelf of_sink asked s m o n) is prepared in
     subst (λ (x : O). IsServed of_shelf of_sink asked s m x p r) same
     (none_serves of_shelf of_sink asked s m n p r task ready (run.written bare) (run.plain bare) run.writes run.clean)
-
--- the parts of a task that was prepared can be run
-ready_runs : {S : Type 0} (of_shelf : shelf_trait.Ghosts S) (asked : Option Command) (s m : S) (task : Task) → IsReady of_shelf asked s m task → task.setting.job.first ≤ task.setting.job.last → CanRun task
-ready_runs of_shelf asked s m task ready begins = record {
-  lawful = ready.lawful;
-  begins = begins;
-  watched = ready.watched;
-  link = ready.link;
-}
-
-pub plain_runs : {S O : Type 0} (of_shelf : shelf_trait.Ghosts S) (of_sink : sink_trait.Ghosts O) (asked : Option Command) (s m : S) (o n : O) (w : Result Work Stopped)
-    (task : Task) → w ≡ Ok (work.Plain task) → IsPrepared of_shelf of_sink asked s m o n w → CanRun task
-plain_runs of_shelf of_sink asked s m o n w task is prepared =
-    let (ready, begins, same, bare) = subst (IsPrepared of_shelf of_sink asked s m o n) is prepared in
-    ready_runs of_shelf asked s m task ready begins
-
-pub saving_runs : {S O : Type 0} (of_shelf : shelf_trait.Ghosts S) (of_sink : sink_trait.Ghosts O) (asked : Option Command) (s m : S) (o n : O) (w : Result Work Stopped)
-    (task : Task) → w ≡ Ok (work.Saving task) → IsPrepared of_shelf of_sink asked s m o n w → CanRun task
-saving_runs of_shelf of_sink asked s m o n w task is prepared =
-    let (ready, begins, same, saves) = subst (IsPrepared of_shelf of_sink asked s m o n) is prepared in
-    ready_runs of_shelf asked s m task ready begins
 
 -- a task that saves files, and that was carried out on the shelf, serves its command
 pub saving_serves : {S O : Type 0} (of_shelf : shelf_trait.Ghosts S) (of_sink : sink_trait.Ghosts O) (asked : Option Command) (s m u t : S) (o n p : O) (w : Result Work Stopped) (r : Result Answer Stopped)

@@ -1,6 +1,6 @@
-//! A command, from its words to what is left of it once its files are read: what it may come to, the
-//! files that it reads, what each of them is refused for, the texts and messages that it writes, and
-//! all that is done for it before the parts of a run.
+//! A command, from its words to what is left of it once its files are read: what it may come to,
+//! the files that it reads, what each of them is refused for, the texts and messages that it writes,
+//! and all that is done for it before the parts of a run.
 #![tactic(auto)]
 
 mod answer;

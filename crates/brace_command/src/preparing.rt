@@ -345,8 +345,8 @@ fn ready_trial<'a, S: Shelf>(
 }
 
 /// Reads the files of a command, whose numbers are in range, from a shelf that writes nothing, and
-/// carries it out where it runs no part. Of a run and of a trial a task is left, of which nothing was
-/// written. It stops where a file is refused, a read or a write failed, or memory was refused.
+/// carries it out where it runs no part. Of a run and of a trial a task is left, of which nothing
+/// was written. It stops where a file is refused, a read or a write failed, or memory was refused.
 pub fn prepare<'a, S: Shelf, O: Sink>(
     alloc: Global,
     command: &Command<'a>,

@@ -66,8 +66,9 @@ pub fn load_watches<S: Shelf>(
         (λ watches. IsLoaded (λ files found. watches_of files program.now
         (option_map (λ n. n.now) name.entry) ≡ found)
         (shelf_call S.Shelf shelf.old shelf.new) watches.items)
-        (IsUnloaded (λ files found. watches_of files program.now (option_map (λ n. n.now) name.entry)
-        ≡ found) (unwrap_or (option_map (λ n. n.now) name.entry) [])
+        (IsUnloaded (λ files found. watches_of files program.now
+        (option_map (λ n. n.now) name.entry) ≡ found)
+        (unwrap_or (option_map (λ n. n.now) name.entry) [])
         (shelf_call S.Shelf shelf.old shelf.new)) }
     ensures unread { name.entry ≡ None
         → IfErr result (λ stopped. stopped_status stopped ≡ ReadFault → ⊥) }
