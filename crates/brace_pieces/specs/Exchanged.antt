@@ -1,5 +1,5 @@
--- The pieces that an actor puts and takes in a step: what they bring, how much of it counts as given,
--- and that they are right.
+-- The pieces that an actor puts and takes in a step: what they bring, how much of it counts as
+-- given, and that they are right.
 use Rattle.std.specs.Prelude.{ℕ, ◌+◌, List, [], ◌∷◌, ◌++◌, length, Option, IfSome}
 use Rattle.brace_core.specs.Schedule.{name}
 use Rattle.brace_model.specs.declared.world.Agent.{Agent}

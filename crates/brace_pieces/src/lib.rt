@@ -1,5 +1,5 @@
-//! What the parts of a cut plane exchange: the setting of a run, its steps in order, the right piece
-//! for each name, and how much each part gives.
+//! What the parts of a cut plane exchange: the setting of a run, its steps in order, the right
+//! piece for each name, and how much each part gives.
 #![tactic(auto)]
 
 mod counts;

@@ -51,7 +51,8 @@ child_by scope rules class a =
 abbrev pub leaves_by : Scope → Class → Rules → Agent → Next
 leaves_by scope class rules a = record {
   agent =
-      survivor (holds (dies_by scope rules)) class a (values_of (rules_by scope rules.states a.states));
+      survivor (holds (dies_by scope rules)) class a
+      (values_of (rules_by scope rules.states a.states));
   child = child_by scope rules class a;
 }
 

@@ -177,8 +177,8 @@ fn walk_in_parts(
     }
 }
 
-/// Whether the parts of a walk come to the rows of the plain step and to its fault, and there is one
-/// where there is to be one.
+/// Whether the parts of a walk come to the rows of the plain step and to its fault, and there is
+/// one where there is to be one.
 fn is_as_plain(alloc: Global, setting: &Setting, order: u64, ends: bool) -> Result<bool, Fail>
     requires { LawfulSetting setting.now }
 {
