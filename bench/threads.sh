@@ -1,8 +1,9 @@
 #!/usr/bin/env bash
 # Runs `trial`, whose plane is cut into eight strips, with 20,000 and 200,000 agents on 1, 2 and 4
 # workers in turn, and writes the seconds of a tick over one epoch with its end (what two ticks and
-# the start take is taken off), the peak memory, and how many times faster that is than one worker,
-# into docs/PERFORMANCE.md.
+# the start take is taken off), the peak memory, how many times faster that is than one worker, and
+# how many times the work of one run as many runs with one worker do at once, which have nothing in
+# common, into docs/PERFORMANCE.md.
 set -eu
 top=$(cd "$(dirname "$0")/.." && pwd)
 "$top/brace" trial --count 1 --ticks 0 >/dev/null
@@ -20,34 +21,43 @@ from measure import written
 
 program = sys.argv[1]
 START, TICKS, WORKERS = 2, 16, (1, 2, 4)
+# How many workers a run has, and how many runs there are at once.
+KINDS = (1, 1), (2, 1), (4, 1), (1, 2), (1, 4)
 ROUNDS = {20_000: 15, 200_000: 4}
 
 
-def run(count, workers, ticks):
-    """The seconds of a run, and its peak memory in MiB."""
+def run(count, workers, copies, ticks):
+    """The seconds of so many runs at once, and the most memory that one of them held, in MiB."""
     sizes = "--count", str(count), "--ticks", str(ticks), "--workers", str(workers)
-    start = time.monotonic()
-    process = subprocess.Popen([program, "trial", *sizes], stdout=subprocess.DEVNULL)
-    _, status, usage = os.wait4(process.pid, 0)
-    if status != 0:
-        raise SystemExit(f"trial {sizes} ended with status {status}")
-    return time.monotonic() - start, usage.ru_maxrss / 1024
+    words = [program, "trial", *sizes]
+    start, most = time.monotonic(), 0.0
+    for process in [subprocess.Popen(words, stdout=subprocess.DEVNULL) for _ in range(copies)]:
+        _, status, usage = os.wait4(process.pid, 0)
+        if status != 0:
+            raise SystemExit(f"trial {sizes} ended with status {status}")
+        most = max(most, usage.ru_maxrss / 1024)
+    return time.monotonic() - start, most
 
 
-lines = ["| agents | workers | seconds a tick | MiB | times faster |", "|---|---|---|---|---|"]
+lines = [
+    "| agents | workers | seconds a tick | MiB | times faster | as many runs at once do |",
+    "|---|---|---|---|---|---|",
+]
 for count, rounds in ROUNDS.items():
-    # The least of each, since other work only adds. Those with more workers take turns with one.
+    # The least of each, since other work only adds. All take turns.
     least, most = collections.defaultdict(lambda: math.inf), collections.defaultdict(float)
     for _ in range(rounds):
-        for workers in WORKERS:
+        for workers, copies in KINDS:
             for ticks in (START, START + TICKS):
-                seconds, mib = run(count, workers, ticks)
-                least[workers, ticks] = min(least[workers, ticks], seconds)
+                seconds, mib = run(count, workers, copies, ticks)
+                one = workers, copies, ticks
+                least[one] = min(least[one], seconds)
                 most[workers] = max(most[workers], mib)
-    tick = {it: (least[it, START + TICKS] - least[it, START]) / TICKS for it in WORKERS}
+    tick = {(w, c): (least[w, c, START + TICKS] - least[w, c, START]) / TICKS for w, c in KINDS}
     for it in WORKERS:
-        faster = tick[1] / tick[it]
-        lines.append(f"| {count:,} | {it} | {tick[it]:.4f} | {most[it]:.0f} | {faster:.2f} |")
+        faster, copies = tick[1, 1] / tick[it, 1], it * tick[1, 1] / tick[1, it]
+        cells = f"{tick[it, 1]:.4f} | {most[it]:.0f} | {faster:.2f} | {copies:.2f}"
+        lines.append(f"| {count:,} | {it} | {cells} |")
 how = f"least of {' and of '.join(map(str, ROUNDS.values()))} runs in turn"
 written("A tick of the trial on several workers, in eight strips", lines, how)
 P
