@@ -90,26 +90,24 @@ fn push_row(
     herd.push(class, id, types, words)
 }
 
-/// The agents of some rows, packed, with their words in one block for each class.
-fn few_packed(
-    alloc: Global,
+/// Adds the agents of some rows.
+fn push_rows(
+    herd: &mut Herd,
     types: &[List<Ty>],
     own: &Moved,
     rows: &[u32],
-) -> Result<Herd, NoMemory>
-    ensures { IfOk result (λ herd. (program : Program) → types.now ≡ types_in program
-        → herd ≡ map (agent_at program own.now) rows.now) }
+    words: &mut Vec<i64>,
+) -> Result<(), NoMemory>
+    ensures { OnOk result ((program : Program) → types.now ≡ types_in program
+        → herd.new ≡ herd.old ++ map (agent_at program own.now) rows.now) }
 {
-    let values = rows.len().saturating_mul(own.states.len());
-    let mut herd = Herd::with_room(alloc, rows.len(), values)?;
-    let mut words = Vec::new(alloc);
     for row in rows {
-        push_row(&mut herd, types, own, *row, &mut words)?;
+        push_row(herd, types, own, *row, words)?;
     }
-    Ok(herd)
+    Ok(())
 }
 
-/// The agents of some rows, packed.
+/// The agents of some rows, packed, with the words of so many in one block for each class.
 fn rows_packed(
     alloc: Global,
     types: &[List<Ty>],
@@ -120,10 +118,14 @@ fn rows_packed(
         → herd ≡ map (agent_at program own.now) rows.now) }
 {
     let mut herd = Herd::with_room(alloc, rows.len(), 0)?;
+    let mut words = Vec::new(alloc);
     let mut left = rows;
     while !left.is_empty() {
-        let (few, rest) = left.split_at(left.len().min(MANY));
-        herd.append(few_packed(alloc, types, own, few)?)?;
+        let (some, rest) = left.split_at(left.len().min(MANY));
+        let values = some.len().saturating_mul(own.states.len());
+        let mut few = Herd::with_room(alloc, some.len(), values)?;
+        push_rows(&mut few, types, own, some, &mut words)?;
+        herd.append(few)?;
         left = rest;
     }
     Ok(herd)
