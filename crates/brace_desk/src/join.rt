@@ -26,7 +26,7 @@ fn count_in(lots: &[Lot], place: usize) -> usize {
 }
 
 /// The same agents, with room for so many more.
-fn widened(alloc: Global, agents: Herd, more: usize) -> Result<Herd, NoMemory>
+fn with_more_room(alloc: Global, agents: Herd, more: usize) -> Result<Herd, NoMemory>
     ensures { IfOk result (λ all. all ≡ agents) }
 {
     if more == 0 {
@@ -39,13 +39,17 @@ fn widened(alloc: Global, agents: Herd, more: usize) -> Result<Herd, NoMemory>
 
 /// The same worlds, each with room for the agents that lots bring in the world of its place: room
 /// that grows with each lot takes twice as much.
-fn all_widened(alloc: Global, worlds: Vec<Shown>, lots: &[Lot]) -> Result<Vec<Shown>, NoMemory>
+fn all_with_more_room(
+    alloc: Global,
+    worlds: Vec<Shown>,
+    lots: &[Lot],
+) -> Result<Vec<Shown>, NoMemory>
     ensures { IfOk result (λ all. all.items ≡ worlds.items) }
 {
     let mut all = Vec::new(alloc);
     for world in worlds {
         let more = count_in(lots, all.len());
-        let agents = widened(alloc, world.agents, more)?;
+        let agents = with_more_room(alloc, world.agents, more)?;
         all.push(Shown {
             tick: world.tick,
             agents,
@@ -100,7 +104,7 @@ pub fn joined(alloc: Global, lots: &mut Vec<Lot>) -> Result<Vec<Shown>, NoMemory
     let Some(last) = lots.pop() else {
         return Ok(Vec::new(alloc));
     };
-    let mut worlds = all_widened(alloc, last.worlds.into_vec(), lots)?;
+    let mut worlds = all_with_more_room(alloc, last.worlds.into_vec(), lots)?;
     while let Some(lot) = lots.pop() {
         worlds = added(alloc, worlds, lot.worlds.into_vec())?;
     }

@@ -1,7 +1,7 @@
 use Rattle.std.proofs.Common.{◌≡◌, ◌∙◌, sym, ap, [], ◌∷◌, ◌++◌, length, append_assoc, arith}
 use Rattle.std.specs.Vec.Iter.{into_iter_items}
 use Rattle.brace_pieces.specs.declared.piece.Shown.{Shown}
-use Rattle.brace_desk.proofs.join.all_widened.Goals as goal
+use Rattle.brace_desk.proofs.join.all_with_more_room.Goals as goal
 
 pub loop-world-preserved : goal.loop-world-preserved
 loop-world-preserved c =
