@@ -182,7 +182,7 @@ impl<'a> Scene<'a> {
     {
         let sought = self.sought(class, bounds);
         let mut lanes = none_entered(self.alloc, ROOM)?;
-        let mut stretches = Vec::new(self.alloc);
+        let mut stretches = Vec::with_capacity(self.alloc, MANY)?;
         let mut next = from;
         while next < crowd.lanes.len() && lanes.count < MANY {
             let lane = lane_at(&crowd.lanes, next)?;

@@ -126,7 +126,7 @@ enum Picks<'a> {
 fn slices_of(alloc: Global, rows: &[u32], most: usize) -> Result<Option<Vec<Slice>>, Redo>
     ensures { IfOk result (λ found. IfSome found (λ all. rows_along all.items ≡ rows.now)) }
 {
-    let mut all = Vec::new(alloc);
+    let mut all = Vec::with_capacity(alloc, most)?;
     let (mut from, mut to) = (0, 0);
     for row in rows {
         let row = *row as usize;
