@@ -22,7 +22,7 @@ loop-next-init c = record {
       c.args.bounds.now c.args.from _ (c.in_ok-lanes.ensures.none c.args.crowd.now.depth);
   stretches =
       let none = c.in_ok-lanes.ensures.none c.args.crowd.now.depth in
-      ap spread c.new-stretches.ensures.items ∙ ap (map (λ (l : Lane). l.this)) (sym none);
+      ap spread c.in_ok-stretches.ensures.items ∙ ap (map (λ (l : Lane). l.this)) (sym none);
 }
 
 pub loop-next-preserved : goal.loop-next-preserved
