@@ -23,7 +23,7 @@ program = sys.argv[1]
 START, TICKS, WORKERS = 2, 16, (1, 2, 4)
 # How many workers a run has, and how many runs there are at once.
 KINDS = (1, 1), (2, 1), (4, 1), (1, 2), (1, 4)
-ROUNDS = {20_000: 15, 200_000: 4}
+ROUNDS = {20_000: 40, 200_000: 4}
 
 
 def run(count, workers, copies, ticks):
